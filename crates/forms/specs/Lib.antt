@@ -1,0 +1,4 @@
+pub mod Form
+pub mod Types
+pub mod Meaning
+pub mod Words

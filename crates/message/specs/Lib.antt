@@ -1,0 +1,4 @@
+pub mod Arrangement
+pub mod Written
+pub mod Permitted
+pub mod Rows
