@@ -59,25 +59,26 @@ unfoldable pub kindOf : ℕ → ℕ → ℕ
 kindOf n k =
     cond (eqb k 1 && eqb n 8) 1 (cond (eqb k 2 && leb 6 n && eqb (n % 4) 2) 2 (cond (eqb k 3 && leb 8 n && eqb (n % 4) 0) 3 0))
 
--- by offset, kind and content
-abbrev pub recordOf : ℕ → ℕ → List ℕ → Record
-recordOf at k c = record {
-  offset = at;
-  kind = k;
-  tag = le16 c;
-  type = le16 (drop 2 c);
-  partner = le16 (drop 4 c);
-  text = take 4 c;
-  members = membersOf (drop (cond (eqb k 2) 4 2) c);
-}
+-- the bytes of a record's members, by its length and kind
+abbrev pub memberBytes : ℕ → ℕ → List ℕ → List ℕ
+memberBytes n k s = cond (eqb k 2) (take (n - 6) (drop 8 s)) (take (n - 4) (drop 6 s))
 
 -- the record at the head of s
-abbrev pub recordAt : ℕ → List ℕ → Record
-recordAt at s = recordOf at (kindOf (le16 s) (le16 (drop 2 s))) (take (le16 s - 2) (drop 4 s))
+unfoldable pub recordAt : ℕ → List ℕ → Record
+unfolding kindOf membersOf
+recordAt at s = record {
+  offset = at;
+  kind = kindOf (le16 s) (le16 (drop 2 s));
+  tag = le16 (drop 4 s);
+  type = le16 (drop 6 s);
+  partner = le16 (drop 8 s);
+  text = take 4 (drop 4 s);
+  members = membersOf (memberBytes (le16 s) (le16 (drop 2 s)) s);
+}
 
 -- the book's records, in its order
 unfoldable pub records : List ℕ → List Record
-unfolding walk walkFrom size kindOf membersOf
+unfolding walk walkFrom size recordAt
 records s = walk (λ at. []) (λ at r rs. recordAt at r ∷ rs) 0 s
 
 abbrev pub isField : ℕ → Record → Bool
