@@ -81,16 +81,24 @@ unfoldable pub records : List ℕ → List Record
 unfolding walk walkFrom size recordAt
 records s = walk (λ at. []) (λ at r rs. recordAt at r ∷ rs) 0 s
 
+-- a field's or a group's record of that tag
+abbrev pub isKind : ℕ → ℕ → Record → Bool
+isKind k t r = eqb (r .kind) k && eqb (r .tag) t
+
 abbrev pub isField : ℕ → Record → Bool
-isField t r = eqb (r .kind) 1 && eqb (r .tag) t
+isField t r = isKind 1 t r
 
 abbrev pub isGroup : ℕ → Record → Bool
-isGroup t r = eqb (r .kind) 3 && eqb (r .tag) t
+isGroup t r = isKind 3 t r
 
 -- a type text without the zeros that fill it up
 unfoldable pub typeText : List ℕ → List ℕ
 typeText [] = []
 typeText (b ∷ s) = let rest = typeText s in cond (eqb b 0) [] (b ∷ rest)
+
+-- the message of that type text
+abbrev pub isMessage : List ℕ → Record → Bool
+isMessage x r = eqb (r .kind) 2 && same (typeText (r .text)) x
 
 -- a record of which the test holds; here and below the first one wins
 pub data LookUp : Type 0 where
@@ -134,7 +142,7 @@ groupOf B t = membersIn (lookUp (isGroup t) B)
 -- the record of a message type
 unfoldable pub messageOf : List Record → List ℕ → LookUp
 unfolding lookUp typeText same
-messageOf B x = lookUp (λ r. eqb (r .kind) 2 && same (typeText (r .text)) x) B
+messageOf B x = lookUp (isMessage x) B
 
 -- datatypes that the rules speak of; a data is bounded by its Length
 abbrev pub isLength : List Record → ℕ → Bool

@@ -5,7 +5,7 @@ use mathlib.Core.List.{List, [], _∷_}
 use lib.Dec.{leb, ltb, eqb}
 use lib.ListN.{length}
 use Rattle.numbers.specs.Bytes.{same, mem}
-use Rattle.book.specs.Records.{stop, Member, required, Record, isField, isGroup, lookUp, isFound, typeOf, groupOf, isLength, isCount, isBounded, partner}
+use Rattle.book.specs.Records.{stop, Member, required, Record, isField, isGroup, isMessage, typeText, lookUp, isFound, typeOf, groupOf, isLength, isCount, isBounded, partner}
 
 -- 1. At most 16,384 bytes; records fill the book exactly, each length at least 2.
 unfoldable pub rule1 : List ℕ → Bool
@@ -86,8 +86,8 @@ rule7 r = eqb (r .kind) 3 && not (startsRequired (r .members))
 
 -- 8. No two messages share a type text.
 unfoldable pub rule8 : List Record → Record → Bool
-unfolding lookUp same
-rule8 before r = eqb (r .kind) 2 && anyOf (λ q. eqb (q .kind) 2 && same (q .text) (r .text)) before
+unfolding lookUp same typeText
+rule8 before r = eqb (r .kind) 2 && anyOf (isMessage (typeText (r .text))) before
 
 -- 9. Groups nest at most 4 deep below a message, and in a message with all its groups opened each tag stands in one place only.
 -- A list opened behind the tags `seen`: those and its own, or that a tag stands twice or a group too deep.

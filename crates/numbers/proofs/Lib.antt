@@ -1,1 +1,4 @@
 pub mod Tests
+pub mod Parts
+pub mod Every
+pub mod Marks
