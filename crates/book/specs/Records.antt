@@ -139,6 +139,11 @@ unfoldable pub groupOf : List Record → ℕ → List Member
 unfolding lookUp
 groupOf B t = membersIn (lookUp (isGroup t) B)
 
+-- the place of a tag in a list: that of its first member there, or the count of the members
+unfoldable pub placeIn : List Member → ℕ → ℕ
+placeIn [] t = 0
+placeIn (m ∷ ms) t = let later = suc (placeIn ms t) in cond (eqb (m .tag) t) 0 later
+
 -- the record of a message type
 unfoldable pub messageOf : List Record → List ℕ → LookUp
 unfolding lookUp typeText same
