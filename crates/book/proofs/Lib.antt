@@ -1,3 +1,5 @@
 pub mod Walk
 pub mod Look
 pub mod Members
+pub mod Columns
+pub mod RuleLaws

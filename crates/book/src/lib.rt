@@ -1,6 +1,13 @@
 // The book: its records, what they declare, and the check.
 pub mod lookup;
 pub mod records;
+mod rules;
+
+// The lowest rule broken, and the offset of the first record that breaks it.
+pub enum Verdict {
+    Sound,
+    Broken(u16, usize),
+}
 
 // What a tag is declared as; datatype 0 for none.
 pub struct Declared {

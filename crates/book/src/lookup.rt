@@ -4,9 +4,15 @@ ghost use Prim.Native.Nat.{ℕ};
 ghost use lib.ListN.{drop};
 ghost use Rattle.book.specs.Records.{membersOf, typeText, isKind, isGroup, isMessage, recordAt, isFound, membersIn, lookUp, typeOf, partner, groupOf, messageOf, placeIn, records};
 ghost use Rattle.book.specs.Answers.{foundIn};
-use crate::records::{record_kind, record_members, record_size};
-use crate::{Declared, Found};
-use numbers::{part, rest, same_bytes, u16_at};
+use crate::Declared;
+use crate::Found;
+use crate::records::record_kind;
+use crate::records::record_members;
+use crate::records::record_size;
+use numbers::part;
+use numbers::rest;
+use numbers::same_bytes;
+use numbers::u16_at;
 
 fn is_kind(s: &[u8], kind: u16, tag: u16) -> bool
     ensures { λ r. ⌜ ((at : ℕ) → r ≡ isKind kind tag (recordAt at (now (s .entry)))) ⌝ }
@@ -75,10 +81,16 @@ pub fn declared(book: &[u8], tag: u16) -> Declared
     ensures { λ r. ⌜ (r .datatype ≡ typeOf (records (now (book .entry))) tag) × (r .partner ≡ partner (records (now (book .entry))) tag) ⌝ }
 {
     let Found::At(at) = find_record(book, 1, tag) else {
-        return Declared { datatype: 0, partner: 0 };
+        return Declared {
+            datatype: 0,
+            partner: 0,
+        };
     };
     let s = rest(book, at);
-    Declared { datatype: u16_at(s, 6), partner: u16_at(s, 8) }
+    Declared {
+        datatype: u16_at(s, 6),
+        partner: u16_at(s, 8),
+    }
 }
 
 pub fn has_group(book: &[u8], tag: u16) -> bool

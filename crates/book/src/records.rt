@@ -3,7 +3,8 @@ ghost use mathlib.Core.Path.{_≡_};
 ghost use lib.ListN.{drop};
 ghost use Rattle.numbers.specs.Bytes.{le16};
 ghost use Rattle.book.specs.Records.{size, stop, kindOf, memberBytes};
-use numbers::{part, u16_at};
+use numbers::part;
+use numbers::u16_at;
 
 // The bytes that the record takes; 0 where none stands there whole.
 pub fn record_size(s: &[u8]) -> usize
