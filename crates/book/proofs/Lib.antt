@@ -3,3 +3,4 @@ pub mod Look
 pub mod Members
 pub mod Columns
 pub mod RuleLaws
+pub mod Checks

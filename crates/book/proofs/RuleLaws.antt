@@ -126,7 +126,7 @@ module _ (B : List Record) (r : Record) (k : ℕ) (e : r .kind ≡ k) where
   unfolding rule3
   rule3-field t at n f z x o p q = rw (e, z, x, o, p, q)
 
--- 4
+  -- 4
   pub rule4-else : (k ≡ 1 → ⊥) → false ≡ rule4 B r
   unfolding rule4
   rule4-else n = rw (e, ne-eqb k 1 n)
@@ -136,7 +136,7 @@ module _ (B : List Record) (r : Record) (k : ℕ) (e : r .kind ≡ k) where
   unfolding rule4
   rule4-field t y p f z a b c q = rw (e, z, a, b, c, q)
 
--- 5
+  -- 5
   pub rule5-other : (y : ℕ) → k ≡ 1 → r .type ≡ y → (y ≡ 7 → ⊥) → false ≡ rule5 B r
   unfolding rule5
   rule5-other y z a n = rw (e, z, a, ne-eqb y 7 n)
@@ -169,7 +169,7 @@ module _ (B : List Record) (r : Record) (k : ℕ) (e : r .kind ≡ k) where
         demorgan true b = refl
         demorgan false b = refl
 
--- 6
+  -- 6
   pub rule6-low : k < 2 → false ≡ rule6 B r
   unfolding rule6
   rule6-low l = rw (e, lt-leb 2 k l)
@@ -178,7 +178,7 @@ module _ (B : List Record) (r : Record) (k : ℕ) (e : r .kind ≡ k) where
   unfolding rule6
   rule6-list h l g m q = rw (e, le-leb 2 k h, m, q)
 
--- 8
+  -- 8
   pub rule8-else : (k ≡ 2 → ⊥) → false ≡ rule8 B r
   unfolding rule8
   rule8-else n = rw (e, ne-eqb k 2 n)

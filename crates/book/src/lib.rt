@@ -1,7 +1,10 @@
 // The book: its records, what they declare, and the check.
+mod checking;
 pub mod lookup;
 pub mod records;
 mod rules;
+
+pub use checking::check;
 
 // The lowest rule broken, and the offset of the first record that breaks it.
 pub enum Verdict {
