@@ -1,0 +1,11 @@
+pub mod Lists
+pub mod Decimal
+pub mod Sees
+pub mod Accepted
+pub mod Readback
+pub mod Framing
+pub mod Sound
+pub mod Whole
+pub mod Places
+pub mod Sizes
+pub mod Demand3
