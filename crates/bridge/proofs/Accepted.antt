@@ -10,16 +10,31 @@ use borrow.Author.Tests.{eqb-true, eq-eqb, not-true}
 use Rattle.numbers.specs.Bytes.{mem}
 use Rattle.numbers.specs.Decimal.{value}
 use Rattle.numbers.proofs.Tests.{clash, and-left, and-right}
-use Rattle.book.specs.Records.{Record, Member, groupOf, isCount}
+use Rattle.book.specs.Records.{isBounded, Record, Member, groupOf, isCount}
 use Rattle.message.specs.Arrangement.{Piece, single, pair, Node, leaf, count, Item, nodeTag, tagOf, Items, Page}
 use Rattle.message.specs.Written.{put, putAll, putNode, putItem, body}
 use Rattle.message.specs.Permitted.{good, spare, inOrder, instance, instances, fitsNode, fits, hasTag, Miss, none, lacks, note, lacking, isNone, anyOrder, goodItems}
-use Rattle.reader.specs.Fields.{peek, Grab, got, fault, grab}
-use Rattle.reader.specs.Items.{Out, done, bad, andThen, onto, isFirst, starts, close, members, inst, insts, closed, group, nodeBy, readItem, ending, ownList, readItems}
+use Rattle.reader.specs.Fields.{torn, peek, Grab, got, fault, grab}
+use Rattle.reader.specs.Items.{Out, done, bad, late, refuse, hasPlace, andThen, onto, isFirst, starts, close, members, inst, insts, closed, group, nodeBy, readItem, ending, ownList, readItems}
 use Rattle.bridge.proofs.Sees.{grab-true, peek-put}
 
 pub never : {A X : Type 0} (n t : ℕ) (s r : List ℕ) (x : X) → bad n t s ≡ done x r → A
 never n t s r x e = let z : _≡_ {A = ℕ} 0 1 = cc in absurd (omega arith)
+
+pub never-late : {A X : Type 0} (b : Bool) (s r : List ℕ) (x : X) → late b s ≡ done x r → A
+never-late b s r x e = let z : _≡_ {A = ℕ} 0 1 = cc in absurd (omega arith)
+
+refuse-never : {X : Type 0} (P : Page) (all : List Member) (seen s r : List ℕ) (x : X) → refuse P all seen s ≡ done x r → ⊥
+unfolding refuse
+refuse-never P all seen s r x e = go (eqb (peek s) torn) refl (isBounded (P .book) (peek s)) refl (hasPlace P (peek s)) refl (hasTag (peek s) all) refl
+  where
+    go : (a : Bool) → eqb (peek s) torn ≡ a → (b : Bool) → isBounded (P .book) (peek s) ≡ b → (c : Bool) → hasPlace P (peek s) ≡ c → (d : Bool) → hasTag (peek s) all ≡ d → ⊥
+    go true ea b eb c ec d ed = never _ _ _ _ _ (rw ea at e)
+    go false ea true eb true ec d ed = never _ _ _ _ _ (rw (ea, eb, ec) at e)
+    go false ea true eb false ec true ed = never-late _ _ _ _ (rw (ea, eb, ec, ed) at e)
+    go false ea true eb false ec false ed = never _ _ _ _ _ (rw (ea, eb, ec, ed) at e)
+    go false ea false eb c ec true ed = never-late _ _ _ _ (rw (ea, eb, ed) at e)
+    go false ea false eb c ec false ed = never _ _ _ _ _ (rw (ea, eb, ed) at e)
 
 -- one thing read, then a list
 record Then {X : Type 0} (o : Out X) (f : List ℕ → Out (List X)) (l : List X) (r : List ℕ) : Type 0 where
@@ -33,10 +48,12 @@ record Then {X : Type 0} (o : Out X) (f : List ℕ → Out (List X)) (l : List X
 then-done : {X : Type 0} (o : Out X) (f : List ℕ → Out (List X)) (l : List X) (r : List ℕ) → andThen o (λ x q. onto x (f q)) ≡ done l r → Then o f l r
 unfolding andThen
 then-done (bad n t s) f l r e = never n t s r l e
+then-done (late b s) f l r e = never-late b s r l e
 then-done (done x q) f l r e = go (f q) refl e
   where
     go : (o : Out (List _)) → f q ≡ o → onto x o ≡ done l r → Then (done x q) f l r
     go (bad n t s) p e = never n t s r l (unfold onto in e)
+    go (late b s) p e = never-late b s r l (unfold onto in e)
     go (done k u) p e =
         let h : done (x ∷ k) u ≡ done l r = unfold onto in e in
         let er : u ≡ r = cc in
@@ -78,12 +95,12 @@ module _ (P : Page) {I : Type 0} (tag : I → ℕ) (fits : I → Bool) (write : 
       where
         go : (b : Bool) → stay (peek s) ≡ b → (l ≡ []) × (s ≡ r) × (none ≡ none)
         go true p = let h : done [] s ≡ done l r = rw p at e in ((cc), (cc), refl)
-        go false p = never _ _ _ _ _ (rw p at e)
+        go false p = absurd (refuse-never P all seen s r l (rw p at e))
     close-true seen (lacks t) s r l e = go (stay (peek s)) refl
       where
         go : (b : Bool) → stay (peek s) ≡ b → (l ≡ []) × (s ≡ r) × (lacks t ≡ none)
         go true p = never _ _ _ _ _ (rw p at e)
-        go false p = never _ _ _ _ _ (rw p at e)
+        go false p = absurd (refuse-never P all seen s r l (rw p at e))
 
     pass : (m : Member) (ms : List Member) (s r : List ℕ) (l : List I) → eqb (peek s) (m .tag) ≡ false → spare (P .book) m ≡ true → s ≡ putAll write l r
         → inOrder (P .book) tag fits ms l ≡ true → inOrder (P .book) tag fits (m ∷ ms) l ≡ true
@@ -127,7 +144,11 @@ module _ (P : Page) {I : Type 0} (tag : I → ℕ) (fits : I → Bool) (write : 
     inst-true (m ∷ ms) s r l e = go (eqb (peek s) (m .tag)) refl
       where
         go : (b : Bool) → eqb (peek s) (m .tag) ≡ b → (s ≡ putAll write l r) × (instance (P .book) tag fits (m ∷ ms) l ≡ true)
-        go false p = never _ _ _ _ _ (rw p at e)
+        go false p = other (starts P all (peek s) || stay (peek s)) refl
+          where
+            other : (c : Bool) → (starts P all (peek s) || stay (peek s)) ≡ c → (s ≡ putAll write l r) × (instance (P .book) tag fits (m ∷ ms) l ≡ true)
+            other true q = never _ _ _ _ _ (rw (p, q) at e)
+            other false q = absurd (refuse-never P [] [] s r l (rw (p, q) at e))
         go true p =
             let a = then-done (read s) (members P read all stay (m .tag ∷ []) none ms) l r (rw p at e) in
             let w = below s (a .left) (a .one) (a .first) in
@@ -157,6 +178,7 @@ module _ (P : Page) {I : Type 0} (tag : I → ℕ) (fits : I → Bool) (write : 
         → (l : List (List I)) × (o ≡ done l r) × (n ≡ count t v l)
     unfolding closed
     closed-done ms t v (bad n x s) k r e = never _ _ _ _ _ e
+    closed-done ms t v (late b s) k r e = never-late _ _ _ _ e
     closed-done ms t v (done l q) k r e = go (isFirst ms (peek q)) refl
       where
         go : (b : Bool) → isFirst ms (peek q) ≡ b → (j : List (List I)) × (done l q ≡ done j r) × (k ≡ count t v j)
@@ -220,7 +242,7 @@ module _ (P : Page) {I : Type 0} (tag : I → ℕ) (fits : I → Bool) (write : 
     own-true zero seen [] r l e = let h = ending-true (lacking (P .book) none (P .own) seen) l r e in rw (h .0) (refl, h .2, h .1)
     own-true (suc f) seen [] r l e = let h = ending-true (lacking (P .book) none (P .own) seen) l r e in rw (h .0) (refl, h .2, h .1)
     own-true zero seen (b ∷ s) r l e = never _ _ _ _ _ e
-    own-true (suc f) seen (b ∷ s) r l e = go (starts P (P .own) x && not (mem x seen)) refl (λ q k. own-true f (x ∷ seen) q r k)
+    own-true (suc f) seen (b ∷ s) r l e = go (starts P (P .own) x) refl (mem x seen) refl (λ q k. own-true f (x ∷ seen) q r k)
       where
         x : ℕ
         x = peek (b ∷ s)
@@ -228,16 +250,17 @@ module _ (P : Page) {I : Type 0} (tag : I → ℕ) (fits : I → Bool) (write : 
         out : ℕ → Bool
         out u = eqb u 0 || starts P (P .own) u
 
-        go : (c : Bool) → (starts P (P .own) x && not (mem x seen)) ≡ c
+        go : (c : Bool) → starts P (P .own) x ≡ c → (d : Bool) → mem x seen ≡ d
             → ((q : List ℕ) (k : List I) → ownList P read f (x ∷ seen) q ≡ done k r → (q ≡ putAll write k []) × (anyOrder P tag fits (x ∷ seen) k ≡ true) × (r ≡ []))
             → (b ∷ s ≡ putAll write l []) × (anyOrder P tag fits seen l ≡ true) × (r ≡ [])
-        go false p ih = never _ _ _ _ _ (rw p at e)
-        go true p ih =
-            let a = then-done (read out (b ∷ s)) (ownList P read f (x ∷ seen)) l r (rw p at e) in
+        go false p d q ih = absurd (refuse-never P [] [] (b ∷ s) r l (rw p at e))
+        go true p true q ih = never _ _ _ _ _ (rw (p, q) at e)
+        go true p false q ih =
+            let a = then-done (read out (b ∷ s)) (ownList P read f (x ∷ seen)) l r (rw (p, q) at e) in
             let w = below out (b ∷ s) (a .left) (a .one) (a .first) in
             let h = ih (a .left) (a .more) (a .rest) in
             let t = tag-at (a .one) (b ∷ s) (a .left) (w .0) (w .1) in
-            (written-then write (a .one) (a .more) l (b ∷ s) (a .left) [] (a .is) (w .0) (h .0), take-own seen (a .one) (a .more) l x (a .is) t p (w .1) (h .1), h .2)
+            (written-then write (a .one) (a .more) l (b ∷ s) (a .left) [] (a .is) (w .0) (h .0), take-own seen (a .one) (a .more) l x (a .is) t (rw (p, q)) (w .1) (h .1), h .2)
 
 -- an item begins with its tag
 module _ (B : List Record) where

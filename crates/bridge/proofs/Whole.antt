@@ -13,7 +13,7 @@ use Rattle.book.specs.Records.{Record, LookUp, nothing, found, messageOf}
 use Rattle.message.specs.Arrangement.{Items, Arrangement, Page}
 use Rattle.message.specs.Written.{header, typeField, trailer, counted, summed, body, written}
 use Rattle.message.specs.Permitted.{versions, among, goodItems, goodFrame, underType, permitted}
-use Rattle.reader.specs.Items.{Out, done, bad, readItems}
+use Rattle.reader.specs.Items.{Out, done, bad, late, readItems}
 use Rattle.reader.specs.Frame.{Framed, framed, misframed, frame}
 use Rattle.reader.specs.Reading.{gives, refused, itemsIn, inFrame, arrangementOf}
 use Rattle.bridge.proofs.Accepted.{items-true}
@@ -99,6 +99,7 @@ items-answer : (B : List Record) (s W N T : List ℕ) (P : Page) (b z : List ℕ
     → frame B s ≡ framed W N T P b z → readItems P b ≡ o → itemsIn s W N T z o ≡ gives A → (written A ≡ s) × (permitted B A ≡ true)
 unfolding itemsIn
 items-answer B s W N T P b z (bad n t r) A ef eo e = no-answer _ _ _ _ e
+items-answer B s W N T P b z (late there r) A ef eo e = no-answer _ _ _ _ e
 items-answer B s W N T P b z (done a r) A ef eo e =
     let ea : A ≡ record { version = W; bodyLength = N; type = T; items = a; checkSum = z } = cc in
     let f = frame-true B s W N T P b z ef in

@@ -12,18 +12,22 @@ use Rattle.message.specs.Arrangement.{single, pair, Node, leaf, count, Item, It
 use Rattle.message.specs.Permitted.{hasTag, Miss, none, lacks, note, lacking}
 use Rattle.reader.specs.Fields.{torn, peek, Grab, got, fault, grab}
 
--- what was read and the bytes left; or number, tag, and the bytes from the place on
+-- what was read and the bytes left; or number, tag, and the bytes from the place on; or a member that comes too late in its instance,
+-- which was there already or was passed
 pub data Out (X : Type 0) : Type 0 where
   done : X → List ℕ → Out X
   bad : ℕ → ℕ → List ℕ → Out X
+  late : Bool → List ℕ → Out X
 
 unfoldable pub andThen : {X Y : Type 0} → Out X → (X → List ℕ → Out Y) → Out Y
 andThen (done x r) f = f x r
 andThen (bad n t s) f = bad n t s
+andThen (late b s) f = late b s
 
 unfoldable pub onto : {X : Type 0} → X → Out (List X) → Out (List X)
 onto x (done l r) = done (x ∷ l) r
 onto x (bad n t s) = bad n t s
+onto x (late b s) = late b s
 
 abbrev pub isFirst : List Member → ℕ → Bool
 isFirst [] t = false
@@ -47,17 +51,17 @@ module _ (P : Page) where
   abbrev pub starts : List Member → ℕ → Bool
   starts ms t = hasTag t ms && not (isBounded (P .book) t)
 
-  -- why a tag that leads no further is refused; `all` is the innermost open list that has it, or the message's
-  unfoldable pub why : List Member → List ℕ → ℕ → ℕ
-  why all seen t =
-      let nine : ℕ = cond (hasTag t all && mem t seen) 10 9 in
-      let twelve : ℕ = cond (hasPlace P t) 12 nine in
-      cond (eqb t torn) 8 (cond (isBounded (P .book) t) twelve nine)
+  -- a tag that leads no further; `all` is the list of the instance in hand, `seen` its tags
+  unfoldable pub refuse : {X : Type 0} → List Member → List ℕ → List ℕ → Out X
+  refuse all seen s =
+      let unknown = cond (hasTag (peek s) all) (late (mem (peek s) seen) s) (bad 9 0 s) in
+      let unpaired = cond (hasPlace P (peek s)) (bad 12 0 s) unknown in
+      cond (eqb (peek s) torn) (bad 8 0 s) (cond (isBounded (P .book) (peek s)) unpaired unknown)
 
   -- the end of an instance; `stay` are the tags that may end it
   unfoldable pub close : {I : Type 0} → List Member → (ℕ → Bool) → List ℕ → Miss → List ℕ → Out (List I)
-  close all stay seen none s = cond (stay (peek s)) (done [] s) (bad (why all seen (peek s)) 0 s)
-  close all stay seen (lacks t) s = cond (stay (peek s)) (bad 14 t s) (bad (why all seen (peek s)) 0 s)
+  close all stay seen none s = cond (stay (peek s)) (done [] s) (refuse all seen s)
+  close all stay seen (lacks t) s = cond (stay (peek s)) (bad 14 t s) (refuse all seen s)
 
   module _ {I : Type 0} (read : List ℕ → Out I) (all : List Member) (stay : ℕ → Bool) where
     -- the members that may still come; `seen` are those of this instance
@@ -73,7 +77,7 @@ module _ (P : Page) where
     inst [] s = bad 13 0 s
     inst (m ∷ ms) s =
         let here = andThen (read s) (λ i r. onto i (members (m .tag ∷ []) none ms r)) in
-        let fault = bad (cond (starts all (peek s) || stay (peek s)) 13 (why all [] (peek s))) 0 s in
+        let fault = cond (starts all (peek s) || stay (peek s)) (bad 13 0 s) (refuse [] [] s) in
         cond (eqb (peek s) (m .tag)) here fault
 
     unfoldable pub insts : ℕ → List Member → List ℕ → Out (List (List I))
@@ -83,6 +87,7 @@ module _ (P : Page) where
   -- the first member once more is an instance beyond n
   unfoldable pub closed : {I : Type 0} → List Member → ℕ → List ℕ → Out (List (List I)) → Out (Node I)
   closed ms t v (bad n x s) = bad n x s
+  closed ms t v (late b s) = late b s
   closed ms t v (done l r) = cond (isFirst ms (peek r)) (bad 13 0 r) (done (count t v l) r)
 
   -- an item; `below` reads one level down, `outer` are the tags of the open lists
@@ -114,9 +119,9 @@ module _ (P : Page) where
     ownList (suc f) seen (b ∷ s) =
         let t = peek (b ∷ s) in
         let here = andThen (below (λ u. eqb u 0 || starts (P .own) u) (b ∷ s)) (λ i r. onto i (ownList f (t ∷ seen) r)) in
-        let fault = bad (why (P .own) seen t) 0 (b ∷ s) in
-        cond (starts (P .own) t && not (mem t seen)) here fault
+        let first = cond (mem t seen) (bad 10 0 (b ∷ s)) here in
+        cond (starts (P .own) t) first (refuse [] [] (b ∷ s))
 
   unfoldable pub readItems : List ℕ → Out Items
-  unfolding ownList ending readItem nodeBy group closed insts inst members close why andThen onto hasPlace hasTag note lacking grab peek typeOf groupOf
+  unfolding ownList ending readItem nodeBy group closed insts inst members close refuse andThen onto hasPlace hasTag note lacking grab peek typeOf groupOf
   readItems s = ownList (readItem 5) (length s) [] s

@@ -8,7 +8,7 @@ use Rattle.book.specs.Records.{Record, records}
 use Rattle.book.specs.Check.{check, isSound}
 use Rattle.message.specs.Arrangement.{Items, Arrangement}
 use Rattle.message.specs.Rows.{Row, width, flat, rowsOf}
-use Rattle.reader.specs.Items.{Out, done, bad, readItems}
+use Rattle.reader.specs.Items.{Out, done, bad, late, readItems}
 use Rattle.reader.specs.Frame.{Framed, framed, misframed, frame}
 
 -- what was asked for, or the refusal's number, place and tag
@@ -24,6 +24,7 @@ onAnswer (refused n p t) f = refused n p t
 unfoldable pub itemsIn : List ℕ → List ℕ → List ℕ → List ℕ → List ℕ → Out Items → Answer Arrangement
 itemsIn s W N T z (done a r) = gives (record { version = W; bodyLength = N; type = T; items = a; checkSum = z })
 itemsIn s W N T z (bad n t r) = refused n (length s - 7 - length r) t
+itemsIn s W N T z (late there r) = refused (cond there 10 9) (length s - 7 - length r) 0
 
 unfoldable pub inFrame : List ℕ → Framed → Answer Arrangement
 inFrame s (misframed n r) = refused n (length s - length r) 0
