@@ -2,3 +2,4 @@ pub mod Fields
 pub mod Items
 pub mod Frame
 pub mod Reading
+pub mod Filling
