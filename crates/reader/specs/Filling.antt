@@ -1,11 +1,12 @@
 -- What the reading's functions answer that put down rows as they go and build no tree: proofs/Filled shows it equal to Items.
 -- Nothing here has to be believed. `w` is a watched tag: whether it was in an instance is known, of another late one it is asked. Assumes nothing.
-use Prim.Native.Nat.{ℕ, zero, suc, _+_}
+use Prim.Native.Nat.{ℕ, zero, suc, _+_, _*_}
 use mathlib.Core.Bool.{Bool, true, false, cond, _&&_, _||_, not}
 use mathlib.Core.List.{List, [], _∷_, _++_}
-use lib.Dec.{eqb}
+use lib.Dec.{eqb, leb}
 use lib.ListN.{length}
-use Rattle.numbers.specs.Bytes.{mem}
+use lib.Seq.{sets}
+use Rattle.numbers.specs.Bytes.{mem, littleEndian}
 use Rattle.numbers.specs.Decimal.{value}
 use Rattle.book.specs.Records.{Record, Member, groupOf, isCount, isBounded}
 use Rattle.message.specs.Arrangement.{Piece, single, pair, Page}
@@ -107,3 +108,28 @@ module _ (P : Page) (w : ℕ) where
   -- from a place and a row number on
   unfoldable pub fItems : ℕ → ℕ → List ℕ → Fill
   fItems at k s = fOwn (λ outer at k. fItem 5 outer 0 0 0 at k) (length s) [] at k s
+
+-- down a list to the member with that tag: what was noted on the way, and the members behind it
+pub data Seek : Type 0 where
+  passed : Miss → Seek
+  met : Miss → List Member → Seek
+
+unfoldable pub seekIn : List Record → Miss → List Member → ℕ → Seek
+seekIn B x [] t = passed x
+seekIn B x (m ∷ ms) t = let later = seekIn B (note B x m) ms t in cond (eqb t (m .tag)) (met x ms) later
+
+-- rows put from row k on, as far as there is room: so many numbers a row, as `numbers` says
+module _ (size : ℕ) (numbers : Row → List ℕ) where
+  abbrev pub putRow : List ℕ → ℕ → Row → List ℕ
+  putRow i k r = cond (leb (size * k + size) (length i)) (sets i (size * k) (numbers r)) i
+
+  unfoldable pub putRows : List ℕ → ℕ → List Row → List ℕ
+  putRows i k [] = i
+  putRows i k (r ∷ q) = putRows (putRow i k r) (suc k) q
+
+abbrev pub rowNumbers : Row → List ℕ
+rowNumbers r = r .tag ∷ r .valueStart ∷ r .valueLength ∷ r .depth ∷ r .countRow ∷ r .instance ∷ []
+
+unfoldable pub rowBytes : Row → List ℕ
+unfolding littleEndian
+rowBytes r = littleEndian (rowNumbers r)

@@ -3,3 +3,4 @@ pub mod Items
 pub mod Frame
 pub mod Reading
 pub mod Filling
+pub mod Met
