@@ -1,2 +1,3 @@
 pub mod Filled
 pub mod ListLaws
+pub mod RowLaws

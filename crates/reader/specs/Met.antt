@@ -11,6 +11,8 @@ use Rattle.message.specs.Arrangement.{Page}
 use Rattle.message.specs.Permitted.{Miss, none, lacks}
 use Rattle.reader.specs.declared.Sought.{Sought}
 use Rattle.reader.specs.declared.Open.{Open}
+use Rattle.reader.specs.declared.Line.{Line}
+use Rattle.message.specs.Rows.{Row}
 use Rattle.reader.specs.Items.{starts}
 use Rattle.reader.specs.Filling.{Seek, passed, met}
 
@@ -21,6 +23,9 @@ missOf n = cond (eqb n 65536) none (lacks n)
 -- in a list's bytes
 abbrev pub soughtIn : List ℕ → Sought → Seek
 soughtIn l r = cond (r .found) (met (missOf (r .miss)) (membersOf (drop (r .at) l))) (passed (missOf (r .miss)))
+
+abbrev pub lineRow : Line → Row
+lineRow r = record { tag = r .tag; valueStart = r .start; valueLength = r .size; depth = r .depth; countRow = r .count; instance = r .inst }
 
 -- the members of the record at an offset
 unfoldable pub listAt : List ℕ → ℕ → List Member
