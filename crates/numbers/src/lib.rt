@@ -70,3 +70,5 @@ pub fn same_bytes(a: &[u8], b: &[u8]) -> bool
 }
 
 pub mod bits;
+pub mod decimal;
+pub mod scan;

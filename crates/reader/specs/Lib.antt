@@ -4,3 +4,5 @@ pub mod Frame
 pub mod Reading
 pub mod Filling
 pub mod Met
+pub mod Taken
+pub mod Answers

@@ -11,10 +11,12 @@ use Rattle.message.specs.Arrangement.{Page}
 use Rattle.message.specs.Permitted.{Miss, none, lacks}
 use Rattle.reader.specs.declared.Sought.{Sought}
 use Rattle.reader.specs.declared.Open.{Open}
+use Rattle.reader.specs.declared.Step.{Step}
+use Rattle.reader.specs.declared.Step.the-variants.{Done, Refused, Ask}
 use Rattle.reader.specs.declared.Line.{Line}
 use Rattle.message.specs.Rows.{Row}
 use Rattle.reader.specs.Items.{starts}
-use Rattle.reader.specs.Filling.{Seek, passed, met}
+use Rattle.reader.specs.Filling.{Fill, full, poor, ask, Seek, passed, met, putRows, rowNumbers, rowBytes}
 
 -- a missing member's tag, 65,536 for none
 abbrev pub missOf : ℕ → Miss
@@ -42,3 +44,22 @@ outerBy book own o u =
     || (starts (pageOf book own) (listAt book (o .b)) u
     || (starts (pageOf book own) (listAt book (o .c)) u
     || (starts (pageOf book own) (listAt book (o .d)) u || (eqb u 0 || starts (pageOf book own) (membersOf own) u))))
+
+-- an answer at a place that reads nothing more; s are the bytes from there on
+abbrev pub Says : List ℕ → ℕ → ℕ → Fill → Step → Type 0
+Says s at k (full q a r) x = (q ≡ []) × (a ≡ at) × (r ≡ s) × (x ≡ Done at k)
+Says s at k (poor n t r) x = (r ≡ s) × (x ≡ Refused n t at)
+Says s at k (ask t) x = x ≡ Ask t
+
+-- an answer that reads from a place on in m, and puts rows from k on into index and bytes
+abbrev pub Meets : List ℕ → ℕ → ℕ → Fill → Step → List ℕ → List ℕ → List ℕ → List ℕ → Type 0
+Meets m at k (full q a r) x i j b d =
+    (x ≡ Done a (k + length q))
+    × (r ≡ drop a m)
+    × (a ≤ length m)
+    × (at + 1 ≤ a)
+    × (at + length q ≤ a)
+    × (j ≡ putRows 6 rowNumbers i k q)
+    × (d ≡ putRows 12 rowBytes b k q)
+Meets m at k (poor n t r) x i j b d = (p : ℕ) × (x ≡ Refused n t p) × (r ≡ drop p m) × (p ≤ length m)
+Meets m at k (ask t) x i j b d = x ≡ Ask t
