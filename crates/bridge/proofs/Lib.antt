@@ -9,3 +9,6 @@ pub mod Whole
 pub mod Places
 pub mod Sizes
 pub mod Demand3
+pub mod Breaking
+pub mod BreakingFrame
+pub mod Demand1

@@ -46,19 +46,19 @@ body-append : (a : Items) (q : List ℕ) → body a ++ q ≡ putAll (putItem 5) 
 body-append a q = rw (body-is a) (all-append (putItem 5) (item-append 5) a [] q)
 
 -- the frame is four fields
-eight : (W r : List ℕ) → putField 8 W r ≡ 56 ∷ 61 ∷ (W ++ (1 ∷ r))
+pub eight : (W r : List ℕ) → putField 8 W r ≡ 56 ∷ 61 ∷ (W ++ (1 ∷ r))
 unfolding putField
 eight W r = refl
 
-nine : (N r : List ℕ) → putField 9 N r ≡ 57 ∷ 61 ∷ (N ++ (1 ∷ r))
+pub nine : (N r : List ℕ) → putField 9 N r ≡ 57 ∷ 61 ∷ (N ++ (1 ∷ r))
 unfolding putField
 nine N r = refl
 
-thirty-five : (T r : List ℕ) → putField 35 T r ≡ 51 ∷ 53 ∷ 61 ∷ (T ++ (1 ∷ r))
+pub thirty-five : (T r : List ℕ) → putField 35 T r ≡ 51 ∷ 53 ∷ 61 ∷ (T ++ (1 ∷ r))
 unfolding putField
 thirty-five T r = refl
 
-ten : (z r : List ℕ) → putField 10 z r ≡ 49 ∷ 48 ∷ 61 ∷ (z ++ (1 ∷ r))
+pub ten : (z r : List ℕ) → putField 10 z r ≡ 49 ∷ 48 ∷ 61 ∷ (z ++ (1 ∷ r))
 unfolding putField
 ten z r = refl
 
