@@ -12,22 +12,23 @@ use lib.ListN.{length, length-append}
 use borrow.Author.Tests.{ltb-true, leb-false, eqb-true}
 use Rattle.numbers.specs.Decimal.{digits}
 use Rattle.numbers.proofs.Tests.{clash, and-left}
-use Rattle.book.specs.Records.{Record, found, messageOf}
+use Rattle.book.specs.Records.{Record, found, groupOf, messageOf}
 use Rattle.book.specs.Check.{Verdict, sound, broken, check, isSound}
-use Rattle.message.specs.Arrangement.{Piece, Items, Arrangement, Page}
+use Rattle.message.specs.Arrangement.{Piece, tagOf, Items, Arrangement, Page}
 use Rattle.message.specs.Written.{putField, put, putAll, header, typeField, trailer}
 use Rattle.message.specs.Permitted.{versions, among}
 use Rattle.message.specs.Rows.{Row, width, fieldSize, rowsOf}
 use Rattle.reader.specs.Items.{Out, done, bad, readItems}
 use Rattle.reader.specs.Frame.{Framed, framed, misframed, frame}
 use Rattle.reader.specs.Reading.{Answer, gives, refused, onAnswer, itemsIn, inFrame, arrangementOf, roomFor, looked, readChecked, read, indexAfter}
-use Rattle.bridge.specs.Refused.{Due, nothing, behind, putDue, Reaches, Lacks, Refusal, long, start, size, end, type, field, NoRoom}
+use Rattle.bridge.specs.Refused.{Due, nothing, behind, putDue, Reaches, tagsOnto, GroupLacks, OwnLacks, Lacks, Refusal, long, start, size, end, type, field, NoRoom, Missing, Complete, Part}
 use Rattle.bridge.proofs.Sees.{put-size, field-size}
 use Rattle.bridge.proofs.Framing.{Listed, Fits, goodSum, frame-true}
 use Rattle.bridge.proofs.Places.{eight, nine}
 use Rattle.bridge.proofs.Whole.{arrangement-is, arrangement-long}
 use Rattle.bridge.proofs.Demand3.{checked-is, read-sound, read-unsound, verdict-sound}
 use Rattle.bridge.proofs.Breaking.{Bad, Far, items-far}
+use Rattle.bridge.proofs.MissingMember.{own-missing, group-missing}
 use Rattle.bridge.proofs.BreakingFrame.{Misframed, at-3, at-4, at-end, at-7, Breaks, frame-breaks}
 
 no-refusal : {X A : Type 0} (x : X) (n p t : ℕ) → gives x ≡ refused n p t → A
@@ -197,6 +198,13 @@ read-short book s room n p t e = ⊎-elim unsound (λ h. ⊎-elim (of-refusal (l
       before = λ x y. absurd (omega (arith, y, h .number));
       tag = λ w. h .tag;
     }
+
+-- The tag of 14 is the member missing earliest in its list: of the message's list, or of that of a group whose instance was read.
+pub own-14 : (P : Page) (q : List ℕ) (t : ℕ) (r : List ℕ) (h : OwnLacks P q t r) → Missing (P .book) (Complete (P .book) (tagsOnto (tagOf 5) (h .items) []) t) (P .own) t
+own-14 P q t r h = own-missing (P .book) (tagsOnto (tagOf 5) (h .items) []) (P .own) t (h .lack)
+
+pub group-14 : (P : Page) (q : List ℕ) (t : ℕ) (r : List ℕ) (h : GroupLacks P q t r) → Missing (P .book) (Part (P .book) (tagOf (h .depth)) t (h .items)) (groupOf (P .book) (h .c)) t
+group-14 P q t r h = group-missing (P .book) (tagOf (h .depth)) (groupOf (P .book) (h .c)) (h .items) t (h .lack)
 
 -- Lent numbers stay as they came.
 pub refused-stays : (index : List ℕ) (n p t : ℕ) → indexAfter index (refused n p t) ≡ index

@@ -11,4 +11,5 @@ pub mod Sizes
 pub mod Demand3
 pub mod Breaking
 pub mod BreakingFrame
+pub mod MissingMember
 pub mod Demand1

@@ -6,7 +6,8 @@ use mathlib.Core.Logic.{_⊎_}
 use Prim.Native.Nat.{ℕ, _+_, _*_, _≤_, _<_}
 use lib.Dec.{eqb}
 use lib.ListN.{length}
-use Rattle.book.specs.Records.{Record, Member, LookUp, found, groupOf, messageOf, isCount, isLength}
+use Rattle.numbers.specs.Bytes.{mem}
+use Rattle.book.specs.Records.{Record, Member, LookUp, found, groupOf, messageOf, isCount, isLength, isBounded, required}
 use Rattle.message.specs.Arrangement.{Piece, Item, tagOf, Items, Arrangement, Page}
 use Rattle.message.specs.Written.{putField, put, putAll, putItem, header, typeField, trailer}
 use Rattle.message.specs.Permitted.{versions, among, goodValue, good, Miss, none, lacks, note, lacking}
@@ -106,3 +107,31 @@ pub record NoRoom (book s : List ℕ) (room n p t : ℕ) : Type 0 where
   pub number : n ≡ 15
   pub place : p ≡ length s
   pub tag : t ≡ 0
+
+-- the member t missing earliest from a list: it is required, no data, and the members before it are complete
+pub record Missing (B : List Record) (complete : List Member → Type 0) (ms : List Member) (t : ℕ) : Type 0 where
+  pub before : List Member
+  pub which : Member
+  pub after : List Member
+  pub is : ms ≡ before ++ (which ∷ after)
+  pub tag : which .tag ≡ t
+  pub needed : required which ≡ true
+  pub single : isBounded B (which .tag) ≡ false
+  pub earlier : complete before
+
+-- of the message's list: the members of a are among the tags seen, or may be left out, and t is not among them
+abbrev pub Complete : List Record → List ℕ → ℕ → List Member → Type 0
+Complete B seen t a = (lacking B none a seen ≡ none) × (mem t seen ≡ false)
+
+-- of an instance: its first items are the members of a, what may be left out left out, and the next one, if there is one, is no t
+module _ {I : Type 0} (tag : I → ℕ) where
+  abbrev pub Other : ℕ → List I → Type 0
+  Other t [] = Unit {0}
+  Other t (i ∷ l) = tag i ≡ t → ⊥
+
+pub record Part (B : List Record) {I : Type 0} (tag : I → ℕ) (t : ℕ) (items : List I) (a : List Member) : Type 0 where
+  pub taken : List I
+  pub left : List I
+  pub split : items ≡ taken ++ left
+  pub complete : leftOut B tag none a taken ≡ none
+  pub next : Other tag t left
