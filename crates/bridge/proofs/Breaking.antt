@@ -198,7 +198,6 @@ why-here P Q all seen t s = let h = why-number P all seen t in here (P .book) Q 
 module _ (P : Page) (Q : List ℕ → ℕ → List ℕ → Type 0) (further : (s q r : List ℕ) (t : ℕ) → Past (P .book) s q → Q q t r → Q s t r)
     {I : Type 0} (tag : I → ℕ) (fits : I → Bool) (write : I → List ℕ → List ℕ)
     (begins : (i : I) (r : List ℕ) → fits i ≡ true → peek (write i r) ≡ tag i) where
-
   -- a list of items that ends in a place, and leaves out t
   record Rest (x : Miss) (ms : List Member) (s : List ℕ) (t : ℕ) (r : List ℕ) : Type 0 where
     items : List I

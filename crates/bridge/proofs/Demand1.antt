@@ -12,8 +12,8 @@ use lib.ListN.{length, length-append}
 use borrow.Author.Tests.{ltb-true, leb-false, eqb-true}
 use Rattle.numbers.specs.Decimal.{digits}
 use Rattle.numbers.proofs.Tests.{clash, and-left}
-use Rattle.book.specs.Records.{Record, found, groupOf, messageOf}
-use Rattle.book.specs.Check.{Verdict, sound, broken, check, isSound}
+use Rattle.book.specs.Records.{Record, records, found, groupOf, messageOf}
+use Rattle.book.specs.Check.{Verdict, sound, broken, filled, rulesFrom, check, isSound}
 use Rattle.message.specs.Arrangement.{Piece, tagOf, Items, Arrangement, Page}
 use Rattle.message.specs.Written.{putField, put, putAll, header, typeField, trailer}
 use Rattle.message.specs.Permitted.{versions, among}
@@ -21,15 +21,39 @@ use Rattle.message.specs.Rows.{Row, width, fieldSize, rowsOf}
 use Rattle.reader.specs.Items.{Out, done, bad, readItems}
 use Rattle.reader.specs.Frame.{Framed, framed, misframed, frame}
 use Rattle.reader.specs.Reading.{Answer, gives, refused, onAnswer, itemsIn, inFrame, arrangementOf, roomFor, looked, readChecked, read, indexAfter}
+use Rattle.bridge.specs.Unsound.{StandsIn, Unsound, over, torn, rule}
 use Rattle.bridge.specs.Refused.{Due, nothing, behind, putDue, Reaches, tagsOnto, GroupLacks, OwnLacks, Lacks, Refusal, long, start, size, end, type, field, NoRoom, Missing, Complete, Part}
 use Rattle.bridge.proofs.Sees.{put-size, field-size}
+use Rattle.bridge.proofs.Sound.{check-is}
 use Rattle.bridge.proofs.Framing.{Listed, Fits, goodSum, frame-true}
 use Rattle.bridge.proofs.Places.{eight, nine}
 use Rattle.bridge.proofs.Whole.{arrangement-is, arrangement-long}
 use Rattle.bridge.proofs.Demand3.{checked-is, read-sound, read-unsound, verdict-sound}
 use Rattle.bridge.proofs.Breaking.{Bad, Far, items-far}
 use Rattle.bridge.proofs.MissingMember.{own-missing, group-missing}
+use Rattle.bridge.proofs.Verdicts.{records-stand, and-then-broken, rules-broken, filled-broken, filled-whole, every-in}
 use Rattle.bridge.proofs.BreakingFrame.{Misframed, at-3, at-4, at-end, at-7, Breaks, frame-breaks}
+
+-- The check answers sound, or a rule and an offset: one of the lines of `Unsound` in specs/Unsound.
+pub check-answer : (book : List ℕ) (n at : ℕ) → check book ≡ broken n at → Unsound book n at
+check-answer book n at e =
+    ⊎-elim (filled-broken book n at) later (and-then-broken (filled book) (rulesFrom 8 2 (records book)) n at (sym (check-is book) ∙ e))
+  where
+    later : (filled book ≡ sound) × (rulesFrom 8 2 (records book) ≡ broken n at) → Unsound book n at
+    later w =
+        let h = rules-broken 8 2 (records book) n at (w .1) in
+        let f = h .here in
+        rule (h .low) (omega (arith, h .high)) (filled-whole book (w .0)) (h .lower) (f .before) (f .after) (f .which) (f .is) (f .keep) (f .fails)
+        (every-in (StandsIn book) (records book) (f .before) (f .after) (f .which) (f .is) (records-stand book)) (f .offset)
+
+-- In short: the rule is one of the nine, and the offset is in the book.
+pub check-short : (book : List ℕ) (n at : ℕ) → check book ≡ broken n at → (1 ≤ n) × (n ≤ 9) × (at ≤ length book)
+check-short book n at e = go (check-answer book n at e)
+  where
+    go : Unsound book n at → (1 ≤ n) × (n ≤ 9) × (at ≤ length book)
+    go (over a b c) = ((omega arith), (omega arith), (omega arith))
+    go (torn a b c d) = ((omega arith), (omega arith), (omega arith))
+    go (rule a b w l x y r i k f g c) = ((omega arith), (omega arith), omega (arith, g .fits, c))
 
 no-refusal : {X A : Type 0} (x : X) (n p t : ℕ) → gives x ≡ refused n p t → A
 no-refusal x n p t e = let z : _≡_ {A = ℕ} 0 1 = cc in absurd (omega arith)

@@ -12,4 +12,5 @@ pub mod Demand3
 pub mod Breaking
 pub mod BreakingFrame
 pub mod MissingMember
+pub mod Verdicts
 pub mod Demand1

@@ -1,2 +1,3 @@
 pub mod FieldList
 pub mod Refused
+pub mod Unsound
