@@ -13,4 +13,5 @@ pub mod Breaking
 pub mod BreakingFrame
 pub mod MissingMember
 pub mod Verdicts
+pub mod Pairs
 pub mod Demand1

@@ -224,11 +224,11 @@ rule9-is : (B : List Record) (r : Record) → rule9 B r ≡ cond (eqb (r .kind) 
 unfolding rule9
 rule9-is B r = refl
 
-message-is : (B : List Record) (T : List ℕ) → messageOf B T ≡ lookUp (λ r. eqb (r .kind) 2 && same (typeText (r .text)) T) B
+pub message-is : (B : List Record) (T : List ℕ) → messageOf B T ≡ lookUp (λ r. eqb (r .kind) 2 && same (typeText (r .text)) T) B
 unfolding messageOf
 message-is B T = refl
 
-group-is : (B : List Record) (t : ℕ) → groupOf B t ≡ membersIn (lookUp (isGroup t) B)
+pub group-is : (B : List Record) (t : ℕ) → groupOf B t ≡ membersIn (lookUp (isGroup t) B)
 unfolding groupOf
 group-is B t = refl
 
