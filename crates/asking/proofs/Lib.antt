@@ -1,0 +1,3 @@
+pub mod FirstRow
+pub mod Segments
+pub mod Stretches
