@@ -68,14 +68,17 @@ module _ (B : List Record) (S : Rules B) where
           let h = found-every (λ r. rule4 B r ≡ false) (isField t) B r (first-every 4 (rule4 B) B (S .four)) e in
           named t r (h .0) (h .1) (eqb-true (r .type) 5 y)
 
-  -- rule 3: 0 is no data's tag
-  zero-free : isBounded B 0 ≡ false
-  unfolding mem
-  zero-free = rw (type-is B 0) (go (lookUp (isField 0) B) (undeclared B S 0 refl))
+  -- what is not declared is no data; so 0 is none, by rule 3
+  pub undeclared-free : (t : ℕ) → isFound (lookUp (isField t) B) ≡ false → isBounded B t ≡ false
+  undeclared-free t h = rw (type-is B t) (go (lookUp (isField t) B) h)
     where
       go : (u : LookUp) → isFound u ≡ false → eqb (typeIn u) 10 ≡ false
       go nothing e = refl
       go (found r) e = clash true refl e
+
+  zero-free : isBounded B 0 ≡ false
+  unfolding mem
+  zero-free = undeclared-free 0 (undeclared B S 0 refl)
 
   bounded-tag : (t : ℕ) → isBounded B t ≡ true → (t ≡ 0 → ⊥)
   bounded-tag t b z = clash (isBounded B 0) (rw z at b) zero-free

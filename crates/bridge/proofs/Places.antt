@@ -224,16 +224,16 @@ module _ (w : List ℕ) where
 
 -- the rows, one step open
 module _ (A : Arrangement) where
-  abbrev first : ℕ
+  abbrev pub first : ℕ
   first = fieldSize 8 (A .version)
 
-  abbrev second : ℕ
+  abbrev pub second : ℕ
   second = first + fieldSize 9 (A .bodyLength)
 
-  abbrev inner : ℕ
+  abbrev pub inner : ℕ
   inner = second + fieldSize 35 (A .type)
 
-  rows-are : rowsOf A
+  pub rows-are : rowsOf A
       ≡ rowOf 0 0 0 0 8 (A .version)
       ∷ rowOf 0 0 0 first 9 (A .bodyLength)
       ∷ rowOf 0 0 0 second 35 (A .type)
