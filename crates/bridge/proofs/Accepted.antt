@@ -85,7 +85,7 @@ module _ (B : List Record) {I : Type 0} (tag : I → ℕ) (fits : I → Bool) wh
 
 module _ (P : Page) {I : Type 0} (tag : I → ℕ) (fits : I → Bool) (write : I → List ℕ → List ℕ)
     (begins : (i : I) (r : List ℕ) → fits i ≡ true → peek (write i r) ≡ tag i) where
-  tag-at : (i : I) (s q : List ℕ) → s ≡ write i q → fits i ≡ true → peek s ≡ tag i
+  pub tag-at : (i : I) (s q : List ℕ) → s ≡ write i q → fits i ≡ true → peek s ≡ tag i
   tag-at i s q e f = ap peek e ∙ begins i q f
 
   module _ (read : List ℕ → Out I) (below : (s r : List ℕ) (i : I) → read s ≡ done i r → (s ≡ write i r) × (fits i ≡ true)) (all : List Member) (stay : ℕ → Bool) where

@@ -56,7 +56,7 @@ pub record Reads (book s : List ℕ) (q : List Row) : Type 0 where
   pub short : length s ≤ 8192
   pub stated : rowsOf which ≡ q
 
-checked-is : (book s : List ℕ) (room : ℕ) → readChecked book s room ≡ onAnswer (arrangementOf (looked book) s) (λ A. roomFor s room (rowsOf A))
+pub checked-is : (book s : List ℕ) (room : ℕ) → readChecked book s room ≡ onAnswer (arrangementOf (looked book) s) (λ A. roomFor s room (rowsOf A))
 unfolding readChecked
 checked-is book s room = refl
 
@@ -107,15 +107,15 @@ roomy-exactly book good s room n q =
     ((λ e. reads-of book s room q e .0), (λ h. let m = enough book s q h in of-reads book s good room q h (omega arith)))
 
 -- Reading that checks the book accepts nothing under one that is not sound.
-read-sound : (book s : List ℕ) (room : ℕ) → isSound (check book) ≡ true → read book s room ≡ readChecked book s room
+pub read-sound : (book s : List ℕ) (room : ℕ) → isSound (check book) ≡ true → read book s room ≡ readChecked book s room
 unfolding read
 read-sound book s room e = rw (e, read)
 
-read-unsound : (book s : List ℕ) (room : ℕ) → isSound (check book) ≡ false → read book s room ≡ refused 1 0 0
+pub read-unsound : (book s : List ℕ) (room : ℕ) → isSound (check book) ≡ false → read book s room ≡ refused 1 0 0
 unfolding read
 read-unsound book s room e = rw (e, read)
 
-verdict-sound : (v : Verdict) → isSound v ≡ true → v ≡ sound
+pub verdict-sound : (v : Verdict) → isSound v ≡ true → v ≡ sound
 unfolding isSound
 verdict-sound sound e = refl
 verdict-sound (broken n at) e = clash false e refl

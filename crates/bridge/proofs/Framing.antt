@@ -20,7 +20,7 @@ use Rattle.reader.specs.Frame.{framed, misframed, field, listedAs, typeOf, sumO
 use Rattle.bridge.proofs.Decimal.{digits-free}
 use Rattle.bridge.proofs.Sees.{cut-true, cut-back}
 
-field-true : (p s v r : List ℕ) → field p s ≡ cutAt v r → (s ≡ p ++ (v ++ (1 ∷ r))) × (free 1 v ≡ true)
+pub field-true : (p s v r : List ℕ) → field p s ≡ cutAt v r → (s ≡ p ++ (v ++ (1 ∷ r))) × (free 1 v ≡ true)
 unfolding field
 field-true [] s v r e = cut-true 1 s v r e
 field-true (a ∷ p) [] v r e = let z : _≡_ {A = ℕ} 0 1 = cc in absurd (omega arith)
@@ -213,7 +213,7 @@ module _ (B : List Record) (W′ N′ T′ : List ℕ) (P′ : Page) (b′ z′ 
       go false p = wrong _ _ _ _ _ _ _ _ (rw p at e)
       go true p = made (count-true r W (field (57 ∷ 61 ∷ []) r) refl (rw p at e)) p
 
-frame-is : (B : List Record) (s : List ℕ) → frame B s ≡ versionOf B s (field (56 ∷ 61 ∷ []) s)
+pub frame-is : (B : List Record) (s : List ℕ) → frame B s ≡ versionOf B s (field (56 ∷ 61 ∷ []) s)
 unfolding frame
 frame-is B s = refl
 

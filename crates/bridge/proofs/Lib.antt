@@ -9,3 +9,9 @@ pub mod Whole
 pub mod Places
 pub mod Sizes
 pub mod Demand3
+pub mod Breaking
+pub mod BreakingFrame
+pub mod MissingMember
+pub mod Verdicts
+pub mod Pairs
+pub mod Demand1

@@ -46,19 +46,19 @@ body-append : (a : Items) (q : List ℕ) → body a ++ q ≡ putAll (putItem 5) 
 body-append a q = rw (body-is a) (all-append (putItem 5) (item-append 5) a [] q)
 
 -- the frame is four fields
-eight : (W r : List ℕ) → putField 8 W r ≡ 56 ∷ 61 ∷ (W ++ (1 ∷ r))
+pub eight : (W r : List ℕ) → putField 8 W r ≡ 56 ∷ 61 ∷ (W ++ (1 ∷ r))
 unfolding putField
 eight W r = refl
 
-nine : (N r : List ℕ) → putField 9 N r ≡ 57 ∷ 61 ∷ (N ++ (1 ∷ r))
+pub nine : (N r : List ℕ) → putField 9 N r ≡ 57 ∷ 61 ∷ (N ++ (1 ∷ r))
 unfolding putField
 nine N r = refl
 
-thirty-five : (T r : List ℕ) → putField 35 T r ≡ 51 ∷ 53 ∷ 61 ∷ (T ++ (1 ∷ r))
+pub thirty-five : (T r : List ℕ) → putField 35 T r ≡ 51 ∷ 53 ∷ 61 ∷ (T ++ (1 ∷ r))
 unfolding putField
 thirty-five T r = refl
 
-ten : (z r : List ℕ) → putField 10 z r ≡ 49 ∷ 48 ∷ 61 ∷ (z ++ (1 ∷ r))
+pub ten : (z r : List ℕ) → putField 10 z r ≡ 49 ∷ 48 ∷ 61 ∷ (z ++ (1 ∷ r))
 unfolding putField
 ten z r = refl
 
@@ -224,16 +224,16 @@ module _ (w : List ℕ) where
 
 -- the rows, one step open
 module _ (A : Arrangement) where
-  abbrev first : ℕ
+  abbrev pub first : ℕ
   first = fieldSize 8 (A .version)
 
-  abbrev second : ℕ
+  abbrev pub second : ℕ
   second = first + fieldSize 9 (A .bodyLength)
 
-  abbrev inner : ℕ
+  abbrev pub inner : ℕ
   inner = second + fieldSize 35 (A .type)
 
-  rows-are : rowsOf A
+  pub rows-are : rowsOf A
       ≡ rowOf 0 0 0 0 8 (A .version)
       ∷ rowOf 0 0 0 first 9 (A .bodyLength)
       ∷ rowOf 0 0 0 second 35 (A .type)

@@ -323,7 +323,7 @@ module _ (B : List Record) where
   node-tidy tag fits (leaf k) f = good-unbounded B k (leaf-good B tag fits k f)
   node-tidy tag fits (count t v l) f = good-unbounded B (single t v) (count-parts B tag fits t v l f .text)
 
-  item-tidy : (d : ℕ) (i : Item d) → fits B d i ≡ true → isBounded B (tagOf d i) ≡ false
+  pub item-tidy : (d : ℕ) (i : Item d) → fits B d i ≡ true → isBounded B (tagOf d i) ≡ false
   unfolding fits
   item-tidy zero i f = absurd i
   item-tidy (suc d) n f = node-tidy (tagOf d) (fits B d) n f

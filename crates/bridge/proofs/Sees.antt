@@ -107,11 +107,11 @@ module _ (t : ℕ) (ok : isTag t ≡ true) where
   tag-legal : (tagForm (render t) && ltb (value (render t)) 65536) ≡ true
   tag-legal = rw (form-render t low, value-render t, lt-ltb t 65536 high)
 
-legal-tag : (d : List ℕ) → tagForm d ≡ true → ltb (value d) 65536 ≡ true → isTag (value d) ≡ true
+pub legal-tag : (d : List ℕ) → tagForm d ≡ true → ltb (value d) 65536 ≡ true → isTag (value d) ≡ true
 legal-tag d f h = rw (lt-ltb 0 (value d) (form-pos d f), h)
 
 -- a tag's text, and what stands behind it up to byte 1
-tag-put : (d v q r : List ℕ) → tagForm d ≡ true → q ≡ v ++ (1 ∷ r) → d ++ (61 ∷ q) ≡ putField (value d) v r
+pub tag-put : (d v q r : List ℕ) → tagForm d ≡ true → q ≡ v ++ (1 ∷ r) → d ++ (61 ∷ q) ≡ putField (value d) v r
 tag-put d v q r f e = rw (field-is (value d) v r, render-of d f, e)
 
 pub field-size : (t : ℕ) (v r : List ℕ) → length (putField t v r) ≡ fieldSize t v + length r
@@ -194,23 +194,23 @@ module _ (B : List Record) where
   good-unbounded (pair l w d v) g = length-unbounded l (pair-parts l w d v g .kind)
 
   -- grab, one step open
-  grab-is : (s : List ℕ) → grab B s ≡ tagged B s (cut 61 s)
+  pub grab-is : (s : List ℕ) → grab B s ≡ tagged B s (cut 61 s)
   unfolding grab
   grab-is s = refl
 
-  tagged-is : (s d r : List ℕ)
+  pub tagged-is : (s d r : List ℕ)
       → tagged B s (cutAt d r)
       ≡ cond (tagForm d && ltb (value d) 65536) (cond (isBounded B (value d)) (fault 12 s) (valued B (value d) s (cut 1 r))) (fault 8 s)
   unfolding tagged
   tagged-is s d r = refl
 
-  valued-is : (t : ℕ) (s v r : List ℕ)
+  pub valued-is : (t : ℕ) (s v r : List ℕ)
       → valued B t s (cutAt v r)
       ≡ cond (some v) (cond (ofType (typeOf B t) v) (cond (isLength B t) (dataOf B t v r (cut 61 r)) (got (single t v) r)) (fault 11 s)) (fault 8 s)
   unfolding valued
   valued-is t s v r = refl
 
-  data-is : (l : ℕ) (w s d r : List ℕ)
+  pub data-is : (l : ℕ) (w s d r : List ℕ)
       → dataOf B l w s (cutAt d r)
       ≡ cond (tagForm d)
       (cond (ltb (value d) 65536 && eqb (value d) (partner B l))

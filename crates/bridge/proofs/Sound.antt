@@ -15,17 +15,13 @@ use Rattle.book.specs.Rules.{rule1, rule2, rule3, rule4, rule5, rule6, rule7, r
 use Rattle.book.specs.Check.{Verdict, sound, broken, first, andThen, filled, ruleOf, rulesFrom, check}
 use Rattle.message.specs.Arrangement.{Page}
 use Rattle.reader.specs.Reading.{looked}
+use Rattle.bridge.specs.Unsound.{Every}
 use Rattle.bridge.proofs.Lists.{distinct, mem-join}
 use Rattle.bridge.proofs.Readback.{openBy, under, placed}
 use Rattle.bridge.proofs.Framing.{Listed}
 
 unsound : {A : Type 0} (n at : ℕ) → broken n at ≡ sound → A
 unsound n at e = let z : _≡_ {A = ℕ} 0 1 = cc in absurd (omega arith)
-
--- each record of a list passes
-abbrev pub Every : (Record → Type 0) → List Record → Type 0
-Every p [] = Unit {0}
-Every p (r ∷ rs) = p r × Every p rs
 
 pub first-every : (n : ℕ) (breaks : Record → Bool) (rs : List Record) → first n breaks rs ≡ sound → Every (λ r. breaks r ≡ false) rs
 unfolding first
@@ -228,11 +224,11 @@ rule9-is : (B : List Record) (r : Record) → rule9 B r ≡ cond (eqb (r .kind) 
 unfolding rule9
 rule9-is B r = refl
 
-message-is : (B : List Record) (T : List ℕ) → messageOf B T ≡ lookUp (λ r. eqb (r .kind) 2 && same (typeText (r .text)) T) B
+pub message-is : (B : List Record) (T : List ℕ) → messageOf B T ≡ lookUp (λ r. eqb (r .kind) 2 && same (typeText (r .text)) T) B
 unfolding messageOf
 message-is B T = refl
 
-group-is : (B : List Record) (t : ℕ) → groupOf B t ≡ membersIn (lookUp (isGroup t) B)
+pub group-is : (B : List Record) (t : ℕ) → groupOf B t ≡ membersIn (lookUp (isGroup t) B)
 unfolding groupOf
 group-is B t = refl
 

@@ -1,1 +1,4 @@
 pub mod FieldList
+pub mod Refused
+pub mod Unsound
+pub mod Neighbours
