@@ -1,3 +1,9 @@
 pub mod Positions
 pub mod Numbers
 pub mod Stamps
+pub mod Texts
+pub mod Leading
+pub mod Decimals
+pub mod Pairs
+pub mod Times
+pub mod OfType

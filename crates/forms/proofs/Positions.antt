@@ -1,16 +1,21 @@
 -- Fixed layouts: a form of one width, then another, is read at fixed positions. Assumes nothing.
-use mathlib.Core.Path.{_≡_, refl, sym, ap, _∙_}
-use Prim.Native.Nat.{ℕ, zero, suc, _+_, _-_, _*_, _<_, _≤_}
-use native.Mathlib.Nat.{not-suc-le-zero, suc-add}
+use mathlib.Core.Path.{_≡_, refl, sym, _∙_}
+use Prim.Native.Nat.{ℕ, zero, suc, _+_, _-_, _<_, _≤_, min, zero-le}
+use native.Mathlib.Nat.{le-of-eq}
 use native.Mathlib.Omega.{arith}
-use mathlib.Core.Bool.{Bool, true, false, _&&_, _||_, or-false, and-false, true≢false, false≢true}
-use mathlib.Core.List.{List, [], _∷_, _++_}
-use lib.Dec.{leb, eqb}
-use lib.ListN.{length, take, drop}
-use borrow.Author.Tests.{eqb-true}
+use mathlib.Core.Bool.{Bool, true, false, _&&_, _||_, or-false, true≢false, false≢true}
+use mathlib.Core.List.{List, [], _∷_}
+use lib.Dec.{eqb}
+use lib.ListN.{length, take, drop, length-drop}
+use lib.Seq.{take-all}
+use borrow.Author.Tests.{eqb-true, eqb-false}
 use Rattle.numbers.proofs.Tests.{and-left, and-right, to-false}
-use Rattle.forms.specs.Form.{Form, none, nil, one, _▷_, _∣_, many, seq, altR, alt, null, after, accepts}
-use Rattle.forms.specs.Meaning.{cuts, none-law, nil-law, one-law, one-two, or-law, then-law}
+use Rattle.forms.specs.Form.{Form, none, nil, one, _▷_, _∣_, many, null, accepts}
+use Rattle.forms.specs.Meaning.{cuts, nil-law, one-two, or-law, then-law}
+
+-- a part `&s[a..]` is what is left
+pub rest : (s : List ℕ) (a : ℕ) → take (length s - a) (drop a s) ≡ drop a s
+rest s a = take-all (length s - a) (drop a s) (le-of-eq (length-drop a s))
 
 -- the width of a form all of whose texts are equally long
 unfoldable pub width : Form → ℕ
@@ -87,6 +92,62 @@ all-wide (f ∣ g) e s a = go (accepts f s) refl (sym (or-law s f g) ∙ a) (all
     go false d o p q = q o ∙ eqb-true (width g) (width f) (and-right (fixed f && fixed g) (eqb (width g) (width f)) e)
 all-wide (many f) e s a = absurd (false≢true e)
 
+pub wrong-width : (f : Form) → fixed f ≡ true → (s : List ℕ) → (length s ≡ width f → ⊥) → accepts f s ≡ false
+wrong-width f e s n = to-false (accepts f s) (λ a. n (all-wide f e s a))
+
 -- f at the front, g behind it
 pub layout : (f g : Form) → fixed f ≡ true → (s : List ℕ) → accepts (f ▷ g) s ≡ (accepts f (take (width f) s) && accepts g (drop (width f) s))
 layout f g e s = then-law s f g ∙ at-width (width f) s (accepts f) (accepts g) (all-wide f e)
+
+-- all of s, if s is as wide as f
+pub exact : (f : Form) → fixed f ≡ true → (s : List ℕ) → accepts f s ≡ (eqb (length s) (width f) && accepts f (take (width f) s))
+exact f e s = go (eqb (length s) (width f)) refl
+  where
+    go : (t : Bool) → eqb (length s) (width f) ≡ t → accepts f s ≡ (t && accepts f (take (width f) s))
+    go true q = rw (take-all (width f) s (le-of-eq (eqb-true (length s) (width f) q)))
+    go false q = wrong-width f e s (eqb-false (length s) (width f) q)
+
+-- the least length of a text
+unfoldable pub least : Form → ℕ
+least none = 0
+least nil = 0
+least (one a b) = 1
+least (f ▷ g) = least f + least g
+least (f ∣ g) = min (least f) (least g)
+least (many f) = 0
+
+sum-least : (s : List ℕ) (m n : ℕ) (p q : List ℕ → Bool) → ((t : List ℕ) → p t ≡ true → m ≤ length t) → ((t : List ℕ) → q t ≡ true → n ≤ length t)
+    → cuts p q s ≡ true → m + n ≤ length s
+unfolding cuts
+sum-least [] m n p q h k e =
+    let x : m ≤ 0 = h [] (and-left (p []) (q []) e) in
+    let y : n ≤ 0 = k [] (and-right (p []) (q []) e) in
+    omega arith
+sum-least (b ∷ s) m n p q h k e =
+    go (cuts (λ t. p (b ∷ t)) q s) refl e (sum-least s (m - 1) n (λ t. p (b ∷ t)) q (λ t a. let y : m ≤ suc (length t) = h (b ∷ t) a in omega arith) k)
+  where
+    go : (t : Bool) → cuts (λ t. p (b ∷ t)) q s ≡ t → (t || (p [] && q (b ∷ s))) ≡ true → (cuts (λ t. p (b ∷ t)) q s ≡ true → m - 1 + n ≤ length s)
+        → m + n ≤ suc (length s)
+    go true c o ih = let z = ih c in omega arith
+    go false c o ih =
+        let x : m ≤ 0 = h [] (and-left (p []) (q (b ∷ s)) o) in
+        let y : n ≤ suc (length s) = k (b ∷ s) (and-right (p []) (q (b ∷ s)) o) in
+        omega arith
+
+at-least : (f : Form) (s : List ℕ) → accepts f s ≡ true → least f ≤ length s
+unfolding least accepts null
+at-least none s a = zero-le
+at-least nil s a = zero-le
+at-least (one lo hi) [] a = absurd (false≢true a)
+at-least (one lo hi) (b ∷ s) a = omega arith
+at-least (f ▷ g) s a = sum-least s (least f) (least g) (accepts f) (accepts g) (at-least f) (at-least g) (sym (then-law s f g) ∙ a)
+at-least (f ∣ g) s a = go (accepts f s) refl (sym (or-law s f g) ∙ a) (at-least f s) (at-least g s)
+  where
+    go : (t : Bool) → accepts f s ≡ t → (t || accepts g s) ≡ true → (accepts f s ≡ true → least f ≤ length s) → (accepts g s ≡ true → least g ≤ length s)
+        → min (least f) (least g) ≤ length s
+    go true d o p q = let h = p d in omega arith
+    go false d o p q = let h = q o in omega arith
+at-least (many f) s a = zero-le
+
+pub too-short : (f : Form) (s : List ℕ) → length s < least f → accepts f s ≡ false
+too-short f s l = to-false (accepts f s) (λ a. let h = at-least f s a in omega arith)

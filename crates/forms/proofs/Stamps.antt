@@ -3,12 +3,12 @@ use mathlib.Core.Path.{_≡_, refl, sym, ap, _∙_, subst}
 use Prim.Native.Nat.{ℕ, zero, suc, _+_, _-_, _*_, _<_, _≤_}
 use native.Mathlib.Nat.{le-of-suc-le-suc, eq-or-lt-of-le}
 use native.Mathlib.Omega.{arith}
-use mathlib.Core.Bool.{Bool, true, false, _&&_, _||_, and-false, and-or-distrib-right, true≢false, false≢true}
+use mathlib.Core.Bool.{Bool, true, false, _&&_, _||_, and-assoc, and-false, and-or-distrib-right}
 use mathlib.Core.List.{List, [], _∷_}
-use lib.Dec.{T, leb, ltb, eqb, eqb·suc-suc, eqb·zero-suc, eqb·suc-zero}
+use lib.Dec.{T, leb, eqb, eqb·suc-suc, eqb·zero-suc, eqb·suc-zero}
 use lib.ListN.{length, take, drop}
 use mathlib.Core.Logic.{⊎-elim}
-use borrow.Author.Tests.{leb-true, eqb-true, ne-eqb}
+use borrow.Author.Tests.{leb-true, ne-eqb}
 use Rattle.forms.specs.Form.{Form, none, nil, one, _▷_, _∣_, many, seq, altR, alt, null, after, accepts}
 use Rattle.forms.specs.Meaning.{cuts, none-law, nil-law, one-law, one-two, or-law, alt-law, seq-law, then-law}
 use lib.Seq.{drop-drop}
@@ -20,7 +20,7 @@ use Rattle.numbers.specs.Decimal.{digits, valueFrom}
 use Rattle.numbers.proofs.Tests.{and-left, and-right, to-false, only-one}
 use Rattle.forms.proofs.Positions.{width, fixed, all-wide, layout}
 
-times-law : (n : ℕ) (s : List ℕ) → accepts (times n digit) s ≡ (eqb (length s) n && digits s)
+pub times-law : (n : ℕ) (s : List ℕ) → accepts (times n digit) s ≡ (eqb (length s) n && digits s)
 unfolding times digit accepts digits null seq after
 times-law zero [] = refl
 times-law zero (b ∷ s) = none-law s ∙ rw (eqb·suc-zero (length s))
@@ -158,23 +158,23 @@ digital-after (many f) e b = digital-seq (after b f) (many f) (digital-after f e
 
 -- the six pairs of document 01
 module _ (s : List ℕ) where
-  month-is : accepts (two 1 12) s ≡ isTwo 1 12 s
+  pub month-is : accepts (two 1 12) s ≡ isTwo 1 12 s
   unfolding two twoBelow byte alt altR fixed width digital accepts after null seq
   month-is = pair-law (two 1 12) 1 12 refl refl refl (digital-after (two 1 12) refl) tt s
 
-  day2-is : accepts (two 1 31) s ≡ isTwo 1 31 s
+  pub day2-is : accepts (two 1 31) s ≡ isTwo 1 31 s
   unfolding two twoBelow byte alt altR fixed width digital accepts after null seq
   day2-is = pair-law (two 1 31) 1 31 refl refl refl (digital-after (two 1 31) refl) tt s
 
-  hour-is : accepts (two 0 23) s ≡ isTwo 0 23 s
+  pub hour-is : accepts (two 0 23) s ≡ isTwo 0 23 s
   unfolding two twoBelow byte alt altR fixed width digital accepts after null seq
   hour-is = pair-law (two 0 23) 0 23 refl refl refl (digital-after (two 0 23) refl) tt s
 
-  minute-is : accepts (two 0 59) s ≡ isTwo 0 59 s
+  pub minute-is : accepts (two 0 59) s ≡ isTwo 0 59 s
   unfolding two twoBelow byte alt altR fixed width digital accepts after null seq
   minute-is = pair-law (two 0 59) 0 59 refl refl refl (digital-after (two 0 59) refl) tt s
 
-  second-is : accepts (two 0 60) s ≡ isTwo 0 60 s
+  pub second-is : accepts (two 0 60) s ≡ isTwo 0 60 s
   unfolding two twoBelow byte alt altR fixed width digital accepts after null seq
   second-is = pair-law (two 0 60) 0 60 refl refl refl (digital-after (two 0 60) refl) tt s
 
@@ -184,7 +184,7 @@ byte-is b [] = refl
 byte-is b (x ∷ []) = one-law b b x ∙ only-one b x
 byte-is b (x ∷ y ∷ s) = one-two b b x y s
 
-colon-is : (s : List ℕ) → accepts colon s ≡ isByte 58 s
+pub colon-is : (s : List ℕ) → accepts colon s ≡ isByte 58 s
 unfolding colon
 colon-is s = byte-is 58 s
 
@@ -194,23 +194,33 @@ date-is s =
     layout (times 4 digit) (two 1 12 ▷ two 1 31) refl s
     ∙ rw (times-law 4 (take 4 s), layout (two 1 12) (two 1 31) refl (drop 4 s), drop-drop 2 4 s, month-is (take 2 (drop 4 s)), day2-is (drop 6 s))
 
-pub time-is : (s : List ℕ) → accepts time s ≡ isTime s
-unfolding time isTime colon fixed width two twoBelow byte alt altR seq
-time-is s =
-    layout (two 0 23) (colon ▷ two 0 59 ▷ colon ▷ two 0 60) refl s
+in-order : (a b c d : Bool) → (a && b && c && d) ≡ (a && (b && (c && d)))
+in-order true b c d = and-assoc b c d
+in-order false b c d = refl
+
+-- HH:MM, then g
+pub hour-minute : (g : Form) (s : List ℕ)
+    → accepts (two 0 23 ▷ colon ▷ two 0 59 ▷ g) s ≡ (isTwo 0 23 (take 2 s) && isByte 58 (part 2 1 s) && isTwo 0 59 (part 3 2 s) && accepts g (drop 5 s))
+unfolding colon fixed width two twoBelow byte alt altR seq
+hour-minute g s =
+    layout (two 0 23) (colon ▷ two 0 59 ▷ g) refl s
     ∙ rw (
-      layout colon (two 0 59 ▷ colon ▷ two 0 60) refl (drop 2 s),
-      layout (two 0 59) (colon ▷ two 0 60) refl (drop 1 (drop 2 s)),
-      layout colon (two 0 60) refl (drop 2 (drop 1 (drop 2 s))),
-      hour-is (take 2 s),
+      layout colon (two 0 59 ▷ g) refl (drop 2 s),
+      layout (two 0 59) g refl (drop 1 (drop 2 s)),
       drop-drop 1 2 s,
       drop-drop 2 3 s,
-      drop-drop 1 5 s,
+      hour-is (take 2 s),
       minute-is (take 2 (drop 3 s)),
-      second-is (drop 6 s),
       colon-is (take 1 (drop 2 s)),
-      colon-is (take 1 (drop 5 s)),
     )
+    (sym (in-order (isTwo 0 23 (take 2 s)) (isByte 58 (part 2 1 s)) (isTwo 0 59 (part 3 2 s)) (accepts g (drop 5 s))))
+
+pub time-is : (s : List ℕ) → accepts time s ≡ isTime s
+unfolding time isTime colon fixed width byte
+time-is s =
+    hour-minute (colon ▷ two 0 60) s
+    ∙ rw (layout colon (two 0 60) refl (drop 5 s), drop-drop 1 5 s, second-is (drop 6 s), colon-is (take 1 (drop 5 s)))
+    (in-order (isTwo 0 23 (take 2 s)) (isByte 58 (part 2 1 s)) (isTwo 0 59 (part 3 2 s)) (isByte 58 (part 5 1 s) && isTwo 0 60 (drop 6 s)))
 
 pub fraction-is : (counts s : List ℕ) → accepts (fraction counts) s ≡ isFraction counts s
 unfolding fraction isFraction maybe byte accepts null after alt seq
@@ -261,14 +271,16 @@ pub maybe-then : (f h : Form) (s : List ℕ) → accepts (maybe f ▷ h) s ≡ (
 unfolding maybe seq
 maybe-then f h s = or-then nil f h s ∙ ap (λ t. t || accepts (f ▷ h) s) (sym (seq-law s nil h))
 
-empty-is : (s : List ℕ) → accepts nil s ≡ eqb (length s) 0
+pub empty-is : (s : List ℕ) → accepts nil s ≡ eqb (length s) 0
 unfolding accepts null
 empty-is [] = refl
 empty-is (b ∷ s) = nil-law b s ∙ sym (eqb·suc-zero (length s))
 
-pub offset-is : (s : List ℕ) → accepts offset s ≡ isOffset s
-unfolding offset isOffset maybe colon fixed width two twoBelow byte alt altR seq
-offset-is s =
+pub offset-parts : (s : List ℕ)
+    → accepts offset s
+    ≡ (eqb (length s) 0 || (isByte 90 s || ((isByte 43 (take 1 s) || isByte 45 (take 1 s)) && (isTwo 1 12 (part 1 2 s) && accepts (maybe (colon ▷ two 0 59)) (drop 3 s)))))
+unfolding offset fixed width two twoBelow byte alt altR
+offset-parts s =
     or-law s nil (byte 90 ∣ (byte 43 ∣ byte 45) ▷ two 1 12 ▷ maybe (colon ▷ two 0 59))
     ∙ rw (
       empty-is s,
@@ -278,36 +290,37 @@ offset-is s =
       layout (two 1 12) (maybe (colon ▷ two 0 59)) refl (drop 1 s),
       drop-drop 2 1 s,
       month-is (take 2 (drop 1 s)),
+      byte-is 90 s,
+      byte-is 43 (take 1 s),
+      byte-is 45 (take 1 s),
+    )
+
+pub offset-is : (s : List ℕ) → accepts offset s ≡ isOffset s
+unfolding isOffset maybe colon fixed width byte
+offset-is s =
+    offset-parts s
+    ∙ rw (
       or-law (drop 3 s) nil (colon ▷ two 0 59),
       empty-is (drop 3 s),
       layout colon (two 0 59) refl (drop 3 s),
       drop-drop 1 3 s,
       minute-is (drop 4 s),
-      byte-is 90 s,
-      byte-is 43 (take 1 s),
-      byte-is 45 (take 1 s),
       colon-is (take 1 (drop 3 s)),
     )
 
-first : (l : List ℕ) → take 1 (take 3 l) ≡ take 1 l
+pub first : (l : List ℕ) → take 1 (take 3 l) ≡ take 1 l
 first [] = refl
 first (x ∷ l) = refl
 
-second : (l : List ℕ) → drop 1 (take 3 l) ≡ take 2 (drop 1 l)
+pub second : (l : List ℕ) → drop 1 (take 3 l) ≡ take 2 (drop 1 l)
 second [] = refl
 second (x ∷ l) = refl
 
 pub tz-is : (s : List ℕ) → accepts tzTime s ≡ isTzTime s
 unfolding tzTime isTzTime colon fixed width two twoBelow byte alt altR seq
 tz-is s =
-    layout (two 0 23) (colon ▷ two 0 59 ▷ maybe (colon ▷ two 0 59) ▷ offset) refl s
+    hour-minute (maybe (colon ▷ two 0 59) ▷ offset) s
     ∙ rw (
-      layout colon (two 0 59 ▷ maybe (colon ▷ two 0 59) ▷ offset) refl (drop 2 s),
-      layout (two 0 59) (maybe (colon ▷ two 0 59) ▷ offset) refl (drop 1 (drop 2 s)),
-      drop-drop 1 2 s,
-      drop-drop 2 3 s,
-      hour-is (take 2 s),
-      minute-is (take 2 (drop 3 s)),
       maybe-then (colon ▷ two 0 59) offset (drop 5 s),
       offset-is (drop 5 s),
       layout (colon ▷ two 0 59) offset refl (drop 5 s),
@@ -318,6 +331,6 @@ tz-is s =
       second (drop 5 s),
       drop-drop 1 5 s,
       minute-is (take 2 (drop 6 s)),
-      colon-is (take 1 (drop 2 s)),
       colon-is (take 1 (drop 5 s)),
     )
+    (in-order (isTwo 0 23 (take 2 s)) (isByte 58 (part 2 1 s)) (isTwo 0 59 (part 3 2 s)) (isOffset (drop 5 s) || (isByte 58 (part 5 1 s) && isTwo 0 59 (part 6 2 s) && isOffset (drop 8 s))))

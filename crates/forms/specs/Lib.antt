@@ -2,3 +2,4 @@ pub mod Form
 pub mod Types
 pub mod Meaning
 pub mod Words
+pub mod Walks
