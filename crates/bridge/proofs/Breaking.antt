@@ -17,7 +17,7 @@ use Rattle.message.specs.Arrangement.{Piece, single, pair, Node, leaf, count, I
 use Rattle.message.specs.Written.{putField, put, putAll, putItem}
 use Rattle.message.specs.Permitted.{isTag, goodValue, good, fits, Miss, none, lacks, note, lacking, hasTag}
 use Rattle.reader.specs.Fields.{torn, Cut, uncut, cutAt, cut, peek, Grab, got, fault, ended, dataOf, valued, tagged, grab}
-use Rattle.reader.specs.Items.{Out, done, bad, andThen, onto, isFirst, hasPlace, starts, why, close, members, inst, insts, closed, group, nodeBy, readItem, ending, ownList, readItems}
+use Rattle.reader.specs.Items.{Out, done, bad, late, andThen, onto, isFirst, hasPlace, starts, refuse, close, members, inst, insts, closed, group, nodeBy, readItem, ending, ownList, readItems}
 use Rattle.bridge.specs.Refused.{goodPieces, Past, Due, nothing, behind, putDue, goodDue, Reaches, leftOut, tagsOnto, GroupLacks, OwnLacks, Lacks}
 use Rattle.bridge.proofs.Sees.{cut-true, single-is, legal-tag, tag-put, grab-is, tagged-is, valued-is, data-is, grab-true}
 use Rattle.bridge.proofs.Accepted.{tag-at, peek-item, item-true, reading-is}
@@ -151,6 +151,7 @@ pub record Bad (B : List Record) (Q : ℕ → List ℕ → Type 0) (s : List ℕ
 abbrev pub Far : {X : Type 0} → List Record → (ℕ → List ℕ → Type 0) → List ℕ → Out X → Type 0
 Far B Q s (done x r) = Past B s r
 Far B Q s (bad n t r) = Bad B Q s n t r
+Far B Q s (late there r) = Bad B Q s (cond there 10 9) 0 r
 
 module _ (B : List Record) where
   -- a number but 14, at the bytes themselves
@@ -173,26 +174,37 @@ module _ (B : List Record) where
     plain = h .plain;
     missing = λ e. f t r (h .missing e);
   }
+  far-shift Q R s q (late there r) p f h = record {
+    reach = reach-then B s q r p (h .reach);
+    low = h .low;
+    high = h .high;
+    plain = h .plain;
+    missing = λ e. f 0 r (h .missing e);
+  }
 
   far-onto : {X : Type 0} (Q : ℕ → List ℕ → Type 0) (s : List ℕ) (x : X) (o : Out (List X)) → Far B Q s o → Far B Q s (onto x o)
   unfolding onto
   far-onto Q s x (done l r) h = h
   far-onto Q s x (bad n t r) h = h
+  far-onto Q s x (late there r) h = h
 
-why-number : (P : Page) (all : List Member) (seen : List ℕ) (t : ℕ) → (8 ≤ why P all seen t) × (why P all seen t ≤ 12)
-unfolding why
-why-number P all seen t = go (eqb t torn) (isBounded (P .book) t) (hasPlace P t) (hasTag t all && mem t seen)
+  late-here : (Q : ℕ → List ℕ → Type 0) (s : List ℕ) (there : Bool) → Bad B Q s (cond there 10 9) 0 s
+  late-here Q s true = here Q s 10 (omega arith) (omega arith)
+  late-here Q s false = here Q s 9 (omega arith) (omega arith)
+
+refuse-far : (X : Type 0) (P : Page) (Q : ℕ → List ℕ → Type 0) (all : List Member) (seen s : List ℕ) → Far {X = X} (P .book) Q s (refuse P all seen s)
+unfolding refuse
+refuse-far X P Q all seen s = go (eqb (peek s) torn) (isBounded (P .book) (peek s)) (hasPlace P (peek s)) (hasTag (peek s) all)
   where
-    go : (a b c d : Bool) → (8 ≤ cond a 8 (cond b (cond c 12 (cond d 10 9)) (cond d 10 9))) × (cond a 8 (cond b (cond c 12 (cond d 10 9)) (cond d 10 9)) ≤ 12)
-    go true b c d = ((omega arith), (omega arith))
-    go false true true d = ((omega arith), (omega arith))
-    go false true false true = ((omega arith), (omega arith))
-    go false true false false = ((omega arith), (omega arith))
-    go false false c true = ((omega arith), (omega arith))
-    go false false c false = ((omega arith), (omega arith))
-
-why-here : (P : Page) (Q : ℕ → List ℕ → Type 0) (all : List Member) (seen : List ℕ) (t : ℕ) (s : List ℕ) → Bad (P .book) Q s (why P all seen t) 0 s
-why-here P Q all seen t s = let h = why-number P all seen t in here (P .book) Q s (why P all seen t) (h .0) (omega (arith, h .1))
+    go : (a b c d : Bool)
+        → Far {X = X} (P .book) Q s
+        (cond a (bad 8 0 s) (cond b (cond c (bad 12 0 s) (cond d (late (mem (peek s) seen) s) (bad 9 0 s))) (cond d (late (mem (peek s) seen) s) (bad 9 0 s))))
+    go true b c d = here (P .book) Q s 8 (omega arith) (omega arith)
+    go false true true d = here (P .book) Q s 12 (omega arith) (omega arith)
+    go false true false true = late-here (P .book) Q s (mem (peek s) seen)
+    go false true false false = here (P .book) Q s 9 (omega arith) (omega arith)
+    go false false c true = late-here (P .book) Q s (mem (peek s) seen)
+    go false false c false = here (P .book) Q s 9 (omega arith) (omega arith)
 
 -- one level, over the one below. `Q s` is what 14 says of a reading from s on
 module _ (P : Page) (Q : List ℕ → ℕ → List ℕ → Type 0) (further : (s q r : List ℕ) (t : ℕ) → Past (P .book) s q → Q q t r → Q s t r)
@@ -238,12 +250,12 @@ module _ (P : Page) (Q : List ℕ → ℕ → List ℕ → Type 0) (further : (s
     unfolding close leftOut putAll
     close-far seen none s = go (stay (peek s))
       where
-        go : (b : Bool) → Far {X = List I} (P .book) (Or none [] s) s (cond b (done [] s) (bad (why P all seen (peek s)) 0 s))
+        go : (b : Bool) → Far {X = List I} (P .book) (Or none [] s) s (cond b (done [] s) (refuse P all seen s))
         go true = past-none (P .book) s
-        go false = why-here P (Or none [] s) all seen (peek s) s
+        go false = refuse-far (List I) P (Or none [] s) all seen s
     close-far seen (lacks t) s = go (stay (peek s))
       where
-        go : (b : Bool) → Far {X = List I} (P .book) (Or (lacks t) [] s) s (cond b (bad 14 t s) (bad (why P all seen (peek s)) 0 s))
+        go : (b : Bool) → Far {X = List I} (P .book) (Or (lacks t) [] s) s (cond b (bad 14 t s) (refuse P all seen s))
         go true = record {
           reach = reach-here (P .book) s;
           low = omega arith;
@@ -251,7 +263,7 @@ module _ (P : Page) (Q : List ℕ → ℕ → List ℕ → Type 0) (further : (s
           plain = λ h. absurd (h refl);
           missing = λ e. inr (record { items = []; is = refl; lack = refl; first = λ i l e. let z : _≡_ {A = ℕ} 0 1 = cc in absurd (omega arith) });
         }
-        go false = why-here P (Or (lacks t) [] s) all seen (peek s) s
+        go false = refuse-far (List I) P (Or (lacks t) [] s) all seen s
 
     -- the item at the head, then the rest of the list
     here-far : (x : Miss) (m : Member) (ms : List Member) (s : List ℕ) (f : List ℕ → Out (List I)) → eqb (peek s) (m .tag) ≡ true
@@ -261,6 +273,7 @@ module _ (P : Page) (Q : List ℕ → ℕ → List ℕ → Type 0) (further : (s
       where
         go : (o : Out I) → read s ≡ o → Far (P .book) (Q s) s o → Far (P .book) (Or x (m ∷ ms) s) s (andThen o (λ i r. onto i (f r)))
         go (bad n t r) e h = far-shift (P .book) {X = List I} (Q s) (Or x (m ∷ ms) s) s s (bad n t r) (past-none (P .book) s) (λ t r w. inl w) h
+        go (late there r) e h = far-shift (P .book) {X = List I} (Q s) (Or x (m ∷ ms) s) s s (late there r) (past-none (P .book) s) (λ t r w. inl w) h
         go (done i q) e h =
             let w = below s q i e in
             far-shift (P .book) (Or x ms q) (Or x (m ∷ ms) s) s q (onto i (f q)) h
@@ -289,10 +302,10 @@ module _ (P : Page) (Q : List ℕ → ℕ → List ℕ → Type 0) (further : (s
       where
         go : (b : Bool) → eqb (peek s) (m .tag) ≡ b → (c : Bool)
             → Far (P .book) (Or none (m ∷ ms) s) s
-            (cond b (andThen (read s) (λ i r. onto i (members P read all stay (m .tag ∷ []) none ms r))) (bad (cond c 13 (why P all [] (peek s))) 0 s))
+            (cond b (andThen (read s) (λ i r. onto i (members P read all stay (m .tag ∷ []) none ms r))) (cond c (bad 13 0 s) (refuse P [] [] s)))
         go true p c = here-far none m ms s (members P read all stay (m .tag ∷ []) none ms) p (members-far (m .tag ∷ []) none ms)
         go false p true = here (P .book) (Or none (m ∷ ms) s) s 13 (omega arith) (omega arith)
-        go false p false = why-here P (Or none (m ∷ ms) s) all [] (peek s) s
+        go false p false = refuse-far (List I) P (Or none (m ∷ ms) s) [] [] s
 
     -- where an instance of this list that leaves out t says what 14 says
     module _ (own : (s : List ℕ) (t : ℕ) (r : List ℕ) → Rest none all s t r → Q s t r) where
@@ -304,6 +317,7 @@ module _ (P : Page) (Q : List ℕ → ℕ → List ℕ → Type 0) (further : (s
           go : (o : Out (List I)) → Far (P .book) (Or none all s) s o → ((q : List ℕ) → Far (P .book) (Q q) q (insts P read all stay n all q))
               → Far (P .book) (Q s) s (andThen o (λ x r. onto x (insts P read all stay n all r)))
           go (bad n t r) h on = far-shift (P .book) {X = List (List I)} (Or none all s) (Q s) s s (bad n t r) (past-none (P .book) s) (λ t r a. ⊎-elim (λ a. a) (own s t r) a) h
+          go (late there r) h on = far-shift (P .book) {X = List (List I)} (Or none all s) (Q s) s s (late there r) (past-none (P .book) s) (λ t r a. ⊎-elim (λ a. a) (own s t r) a) h
           go (done x q) h on =
               far-shift (P .book) (Q q) (Q s) s q (onto x (insts P read all stay n all q)) h (λ t r a. further s q r t h a)
               (far-onto (P .book) (Q q) q x (insts P read all stay n all q) (on q))
@@ -311,6 +325,7 @@ module _ (P : Page) (Q : List ℕ → ℕ → List ℕ → Type 0) (further : (s
   closed-far : (ms : List Member) (t : ℕ) (v s : List ℕ) (o : Out (List (List I))) → Far (P .book) (Q s) s o → Far (P .book) (Q s) s (closed P ms t v o)
   unfolding closed
   closed-far ms t v s (bad n x r) h = h
+  closed-far ms t v s (late there r) h = h
   closed-far ms t v s (done l r) h = go (isFirst ms (peek r))
     where
       go : (b : Bool) → Far {X = Node I} (P .book) (Q s) s (cond b (bad 13 0 r) (done (count t v l) r))
@@ -377,7 +392,7 @@ module _ (P : Page) (Q : List ℕ → ℕ → List ℕ → Type 0) (further : (s
     own-far zero seen [] = ending-far seen (lacking (P .book) none (P .own) seen) refl
     own-far (suc f) seen [] = ending-far seen (lacking (P .book) none (P .own) seen) refl
     own-far zero seen (c ∷ s) = here (P .book) (OrLeft seen (c ∷ s)) (c ∷ s) 8 (omega arith) (omega arith)
-    own-far (suc f) seen (c ∷ s) = go (starts P (P .own) x && not (mem x seen)) (own-far f (x ∷ seen))
+    own-far (suc f) seen (c ∷ s) = go (starts P (P .own) x) (mem x seen) (own-far f (x ∷ seen))
       where
         x : ℕ
         x = peek (c ∷ s)
@@ -390,17 +405,20 @@ module _ (P : Page) (Q : List ℕ → ℕ → List ℕ → Type 0) (further : (s
             → Far (P .book) (OrLeft seen (c ∷ s)) (c ∷ s) (andThen o (λ i r. onto i (ownList P read f (x ∷ seen) r)))
         step (bad n t r) e h on =
             unfold andThen in far-shift (P .book) {X = List I} (Q (c ∷ s)) (OrLeft seen (c ∷ s)) (c ∷ s) (c ∷ s) (bad n t r) (past-none (P .book) (c ∷ s)) (λ t r w. inl w) h
+        step (late there r) e h on =
+            unfold andThen in far-shift (P .book) {X = List I} (Q (c ∷ s)) (OrLeft seen (c ∷ s)) (c ∷ s) (c ∷ s) (late there r) (past-none (P .book) (c ∷ s)) (λ t r w. inl w) h
         step (done i q) e h on =
             let w = below out (c ∷ s) q i e in
             unfold andThen in far-shift (P .book) (OrLeft (x ∷ seen) q) (OrLeft seen (c ∷ s)) (c ∷ s) q (onto i (ownList P read f (x ∷ seen) q)) h
             (λ t r a. ⊎-elim (λ a. inl (further (c ∷ s) q r t h a)) (λ a. inr (onto-left i seen (c ∷ s) q x t r (w .0) (tag-at P tag fits write begins i (c ∷ s) q (w .0) (w .1)) a)) a)
             (far-onto (P .book) (OrLeft (x ∷ seen) q) q i (ownList P read f (x ∷ seen) q) (on q))
 
-        go : (b : Bool) → ((q : List ℕ) → Far (P .book) (OrLeft (x ∷ seen) q) q (ownList P read f (x ∷ seen) q))
+        go : (b d : Bool) → ((q : List ℕ) → Far (P .book) (OrLeft (x ∷ seen) q) q (ownList P read f (x ∷ seen) q))
             → Far (P .book) (OrLeft seen (c ∷ s)) (c ∷ s)
-            (cond b (andThen (read out (c ∷ s)) (λ i r. onto i (ownList P read f (x ∷ seen) r))) (bad (why P (P .own) seen x) 0 (c ∷ s)))
-        go true on = step (read out (c ∷ s)) refl (far out (c ∷ s)) on
-        go false on = why-here P (OrLeft seen (c ∷ s)) (P .own) seen x (c ∷ s)
+            (cond b (cond d (bad 10 0 (c ∷ s)) (andThen (read out (c ∷ s)) (λ i r. onto i (ownList P read f (x ∷ seen) r)))) (refuse P [] [] (c ∷ s)))
+        go true false on = step (read out (c ∷ s)) refl (far out (c ∷ s)) on
+        go true true on = here (P .book) (OrLeft seen (c ∷ s)) (c ∷ s) 10 (omega arith) (omega arith)
+        go false d on = refuse-far (List I) P (OrLeft seen (c ∷ s)) [] [] (c ∷ s)
 
 -- by depth
 module _ (P : Page) where

@@ -18,7 +18,7 @@ use Rattle.message.specs.Arrangement.{Piece, tagOf, Items, Arrangement, Page}
 use Rattle.message.specs.Written.{putField, put, putAll, header, typeField, trailer}
 use Rattle.message.specs.Permitted.{versions, among}
 use Rattle.message.specs.Rows.{Row, width, fieldSize, rowsOf}
-use Rattle.reader.specs.Items.{Out, done, bad, readItems}
+use Rattle.reader.specs.Items.{Out, done, bad, late, readItems}
 use Rattle.reader.specs.Frame.{Framed, framed, misframed, frame}
 use Rattle.reader.specs.Reading.{Answer, gives, refused, onAnswer, itemsIn, inFrame, arrangementOf, roomFor, looked, readChecked, read, indexAfter}
 use Rattle.bridge.specs.Unsound.{StandsIn, Unsound, over, torn, rule}
@@ -120,6 +120,9 @@ module _ (B : List Record) (s : List ℕ) where
   items-refusal W N T b z P (bad m u r) e F h n p t w =
       let x = refusal-parts m (length s - 7 - length r) u n p t w in
       rw (← x .0, ← x .1, ← x .2) (bad-refusal W N T b z P m u r e F h)
+  items-refusal W N T b z P (late there r) e F h n p t w =
+      let x = refusal-parts (cond there 10 9) (length s - 7 - length r) 0 n p t w in
+      rw (← x .0, ← x .1, ← x .2) (bad-refusal W N T b z P (cond there 10 9) 0 r e F h)
 
   frame-refusal : (f : Framed) → frame B s ≡ f → Breaks s f → (n p t : ℕ) → inFrame s f ≡ refused n p t → Refusal B s n p t
   unfolding inFrame
