@@ -81,7 +81,7 @@ impl Cases {
             self.queue.push_back(requests::read_case(random, book_bytes, message));
         }
         let forms = Book::of_forms();
-        for _ in 0..8 {
+        for _ in 0..12 {
             let message = messages::of_forms(random);
             self.queue.push_back(requests::read_case(random, forms.bytes(), message));
         }

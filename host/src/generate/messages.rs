@@ -277,7 +277,10 @@ pub fn message(random: &mut Random, book: &Book) -> Vec<u8> {
 
 /// A message of `Book::of_forms` with one field, whose value is near the edge of its form.
 pub fn of_forms(random: &mut Random) -> Vec<u8> {
-    let datatype = random.range(1, 16) as u16;
+    // Those with many parts more often.
+    let datatype = *random.pick(&[
+        1, 2, 3, 4, 5, 6, 7, 8, 9, 10, 11, 12, 13, 14, 15, 16, 11, 12, 12, 14, 14, 15, 15, 15,
+    ]);
     let value = if random.chance(80) { near(random, datatype) } else { good(random, datatype) };
     let pieces = match datatype {
         5 => vec![Piece::new(105, value), Piece::new(110, vec![b'x'])],
