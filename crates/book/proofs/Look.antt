@@ -1,6 +1,6 @@
 -- Laws of looking for a record. Assumes nothing.
 use mathlib.Core.Path.{_≡_, refl, sym, ap, _∙_}
-use mathlib.Core.Bool.{Bool, true, false, cond, _&&_}
+use mathlib.Core.Bool.{Bool, true, false, cond, _&&_, and-true, and-false}
 use mathlib.Core.List.{List, [], _∷_, _++_, append-nil}
 use Prim.Native.Nat.{ℕ, zero, suc, _+_, _-_, _≤_, _<_, zero-le}
 use native.Mathlib.Omega.{arith}
@@ -49,10 +49,14 @@ module _ (p : Record → Bool) (s : List ℕ) (at n : ℕ) (inv : Looking p s at
     look-turn q = (within s at n e (inv .0), step ∙ rw q)
 
 -- columns of a record, by what the code reads
-pub is-kind : (s : List ℕ) (k t : ℕ) (x y : ℕ) → x ≡ kindOf (le16 s) (le16 (drop 2 s)) → y ≡ le16 (drop 4 s) → (at : ℕ)
-    → (eqb x k && eqb y t) ≡ isKind k t (recordAt at s)
-unfolding recordAt
-is-kind s k t x y p q at = rw (p, q)
+module _ (s : List ℕ) (k t y : ℕ) (e : y ≡ le16 (drop 4 s)) (at : ℕ) where
+  pub other-tag : (y ≡ t → ⊥) → false ≡ isKind k t (recordAt at s)
+  unfolding recordAt
+  other-tag n = sym (rw (← e, ne-eqb y t n) (and-false (eqb (kindOf (le16 s) (le16 (drop 2 s))) k)))
+
+  pub is-kind : y ≡ t → (x : ℕ) → x ≡ kindOf (le16 s) (le16 (drop 2 s)) → eqb x k ≡ isKind k t (recordAt at s)
+  unfolding recordAt
+  is-kind z x p = rw (← e, eq-eqb y t z, ← p) (sym (and-true (eqb x k)))
 
 module _ (s w x : List ℕ) (k : ℕ) (e : k ≡ kindOf (le16 s) (le16 (drop 2 s))) (at : ℕ) where
   pub no-message : (k ≡ 2 → ⊥) → false ≡ isMessage x (recordAt at s)

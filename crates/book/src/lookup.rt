@@ -14,10 +14,14 @@ use numbers::rest;
 use numbers::same_bytes;
 use numbers::u16_at;
 
+// The tag first: it decides nearly every step of a scan.
 fn is_kind(s: &[u8], kind: u16, tag: u16) -> bool
     ensures { λ r. ⌜ ((at : ℕ) → r ≡ isKind kind tag (recordAt at (now (s .entry)))) ⌝ }
 {
-    (record_kind(s) == kind) & (u16_at(s, 4) == tag)
+    if u16_at(s, 4) != tag {
+        return false;
+    }
+    record_kind(s) == kind
 }
 
 // The first record of that kind and tag.
