@@ -101,12 +101,12 @@ unfolding items_in
 items_answer B s W N T P b z (bad n t r) A ef eo e = no_answer _ _ _ _ e
 items_answer B s W N T P b z (late there r) A ef eo e = no_answer _ _ _ _ e
 items_answer B s W N T P b z (done a r) A ef eo e =
-    let ea : A ≡ record { version = W; bodyLength = N; type = T; items = a; checkSum = z } = cc in
+    let ea : A ≡ record { version = W; body_length = N; type = T; items = a; check_sum = z } = cc in
     let f = frame_true B s W N T P b z ef in
     let c = items_true P b r a eo in
     rw ea (
-      written_is (record { version = W; bodyLength = N; type = T; items = a; checkSum = z }) ∙ rw c.0 (sym f.0),
-      permitted_of B (record { version = W; bodyLength = N; type = T; items = a; checkSum = z }) (record { page = P; frame = rw c.0 f.1; items = c.1 }),
+      written_is (record { version = W; body_length = N; type = T; items = a; check_sum = z }) ∙ rw c.0 (sym f.0),
+      permitted_of B (record { version = W; body_length = N; type = T; items = a; check_sum = z }) (record { page = P; frame = rw c.0 f.1; items = c.1 }),
     )
 
 pub in_frame_true : (B : List Record) (s : List ℕ) (A : Arrangement) → in_frame s (frame B s) ≡ gives A → (written A ≡ s) × (permitted B A ≡ true)

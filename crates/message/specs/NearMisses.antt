@@ -56,7 +56,7 @@ unfoldable pub summing : String → List ℕ → String → Items → Arrangemen
 unfolding bytes body total
 summing W N T a =
     let n = total (header (bytes W) N (type_field (bytes T) (body a))) % 256 in
-    record { version = bytes W; bodyLength = N; type = bytes T; items = a; checkSum = (48 + n / 100) ∷ (48 + n / 10 % 10) ∷ (48 + n % 10) ∷ [] }
+    record { version = bytes W; body_length = N; type = bytes T; items = a; check_sum = (48 + n / 100) ∷ (48 + n / 10 % 10) ∷ (48 + n % 10) ∷ [] }
 
 unfoldable pub under : String → String → Items → Arrangement
 unfolding summing render
@@ -72,7 +72,7 @@ p2 = f 11 "A" ∷ count 453 (bytes "1") ((f 448 "X" ∷ f 447 "B" ∷ []) ∷ []
 
 unfoldable pub framing : String → String → Arrangement
 unfolding bytes p2
-framing N z = record { version = bytes "FIX.4.4"; bodyLength = bytes N; type = bytes "D"; items = p2; checkSum = bytes z }
+framing N z = record { version = bytes "FIX.4.4"; body_length = bytes N; type = bytes "D"; items = p2; check_sum = bytes z }
 
 -- a group of one instance behind field 11
 unfoldable pub one : List (Item 4) → Arrangement

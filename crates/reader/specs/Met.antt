@@ -22,7 +22,7 @@ abbrev pub sought_in : List ℕ → Sought → Seek
 sought_in l r = cond r.found (met (miss_of r.miss) (members_of (drop r.at l))) (passed (miss_of r.miss))
 
 abbrev pub line_row : Line → Row
-line_row r = record { tag = r.tag; valueStart = r.start; valueLength = r.size; depth = r.depth; countRow = r.count; instance = r.inst }
+line_row r = record { tag = r.tag; value_start = r.start; value_length = r.size; depth = r.depth; count_row = r.count; instance = r.inst }
 
 -- the members of the record at an offset
 unfoldable pub list_at : List ℕ → ℕ → List Member

@@ -18,7 +18,7 @@ on_answer (refused n p t) f = refused n p t
 
 -- the bytes between 35 and 10 end seven before the message does
 unfoldable pub items_in : List ℕ → List ℕ → List ℕ → List ℕ → List ℕ → Out Items → Answer Arrangement
-items_in s W N T z (done a r) = gives (record { version = W; bodyLength = N; type = T; items = a; checkSum = z })
+items_in s W N T z (done a r) = gives (record { version = W; body_length = N; type = T; items = a; check_sum = z })
 items_in s W N T z (bad n t r) = refused n (length s - 7 - length r) t
 items_in s W N T z (late there r) = refused (cond there 10 9) (length s - 7 - length r) 0
 

@@ -24,10 +24,10 @@ unfoldable pub arranged : Arrangement
 unfolding bytes
 arranged = record {
   version = bytes "FIX.4.4";
-  bodyLength = bytes "28";
+  body_length = bytes "28";
   type = bytes "D";
   items = leaf (single 11 (bytes "A")) ∷ count 453 (bytes "1") ((leaf (single 448 (bytes "X")) ∷ leaf (single 447 (bytes "B")) ∷ []) ∷ []) ∷ [];
-  checkSum = bytes "045";
+  check_sum = bytes "045";
 }
 
 unfoldable pub rows : List Row

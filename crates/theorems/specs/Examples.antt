@@ -40,7 +40,7 @@ pub record Example : Type 0 where
 
 -- tag, value start, value length, depth, count row, instance
 abbrev pub row : ℕ → ℕ → ℕ → ℕ → ℕ → ℕ → Row
-row t s n e c j = record { tag = t; valueStart = s; valueLength = n; depth = e; countRow = c; instance = j }
+row t s n e c j = record { tag = t; value_start = s; value_length = n; depth = e; count_row = c; instance = j }
 
 abbrev pub example : String → ℕ → Answer (List Row) → Example
 example m n a = record { message = m; room = n; answer = a }
