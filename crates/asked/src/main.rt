@@ -1,5 +1,7 @@
 // Asks the questions of the vectors and of edge cases. A line for each: its label, what was asked, the answer. What must be written
 // stands in the file stdout, worked out from the vectors and from document 01.
+#![tactic(auto)]
+
 ghost use Rattle.std.specs.Prelude.{◌≡◌, length};
 
 use index::Found;

@@ -1,4 +1,6 @@
 // The book: its records, what they declare, and the check.
+#![tactic(auto)]
+
 mod checking;
 pub mod lookup;
 pub mod records;

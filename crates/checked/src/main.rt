@@ -11,6 +11,8 @@
 // record comes by itself. A text is its four bytes, `_` for a zero. Behind `.` no length is written. `x` and pairs of hexadecimal
 // digits: these bytes. `*N`: the last four bytes N times more. `+N`: the last ten bytes, a field, N times more, the tag one
 // higher each time.
+#![tactic(auto)]
+
 mod pen;
 
 use book::Verdict;

@@ -1,4 +1,6 @@
 // Whether a value is of a datatype, by the datatype's number in document 01.
+#![tactic(auto)]
+
 pub mod number;
 pub mod text;
 pub mod time;

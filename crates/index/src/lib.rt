@@ -1,4 +1,6 @@
 // The questions of document 01 on an index: the value of a row, find, and a walker. They are asked of any lent numbers.
+#![tactic(auto)]
+
 ghost use Rattle.std.specs.Prelude.{◌≡◌, ◌<◌, length};
 ghost use Rattle.message.specs.Rows.{width};
 ghost use Rattle.index.specs.Questions.{row_count, number, value_of, of_instance, find as find_of, find_value, instance_row, next_instance, step as step_of};

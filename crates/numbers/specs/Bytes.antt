@@ -1,8 +1,7 @@
 -- Bytes, their sum, and numbers of two bytes. Assumes nothing.
 use Rattle.std.specs.Prelude.{ℕ, ◌+◌, ◌*◌, ◌/◌, ◌%◌, Bool, true, false, cond, ◌&&◌, ◌||◌, not, List, [], ◌∷◌, eqb, get_or}
-use Prim.Native.String
 use Prim.Native.String.{String}
-use Prim.Native.Char.{Char, code}
+use Prim.Native.Char.{code}
 
 -- quoted text; `|` stands for byte 1
 unfoldable pub bytes : String → List ℕ

@@ -1,4 +1,6 @@
 // Bytes and two-byte numbers. Every function is total: what stands outside the slice reads as 0, as in the definitions.
+#![tactic(auto)]
+
 ghost use Rattle.std.specs.Prelude.{◌≡◌, ◌+◌, ◌*◌, take, drop, get_or};
 ghost use Rattle.numbers.specs.Bytes.{le16, same};
 

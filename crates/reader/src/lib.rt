@@ -1,4 +1,6 @@
 // The reader: a message in, and where every field stands.
+#![tactic(auto)]
+
 pub mod closing;
 pub mod fields;
 pub mod frame;

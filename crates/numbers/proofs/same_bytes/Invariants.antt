@@ -1,0 +1,10 @@
+use Rattle.numbers.proofs.Parts.{Same}
+use lib.ListN.{length}
+use Prim.Native.Nat.{◌-◌}
+use Rattle.numbers.proofs.same_bytes.Given as goal
+
+abbrev pub invariant-loop-i : goal.invariant-loop-i
+invariant-loop-i l = Same l.a l.b l.i
+
+abbrev pub decreases-loop-i : goal.decreases-loop-i
+decreases-loop-i l = length l.a - l.i
