@@ -1,20 +1,20 @@
 -- Laws of the check's loops, maps and order. Assumes nothing.
 use mathlib.Core.Path.{◌≡◌, refl, sym, ap, ◌∙◌}
-use mathlib.Core.Bool.{Bool, true, false, cond, ◌&&◌, ◌||◌, not, or-false, true≢false}
+use mathlib.Core.Bool.{Bool, true, false, cond, ◌&&◌, ◌||◌, or-false, true≢false}
 use mathlib.Core.List.{List, [], ◌∷◌}
-use Prim.Native.Nat.{ℕ, zero, suc, ◌+◌, ◌-◌, ◌*◌, ◌≤◌, ◌<◌, zero-le}
+use Prim.Native.Nat.{ℕ, zero, suc, ◌+◌, ◌-◌, ◌≤◌, ◌<◌, zero-le}
 use native.Mathlib.Omega.{arith}
 use borrow.Author.Tests.{eqb-true, eqb-false, eq-eqb, ne_eqb, lt-ltb, le-ltb}
-use lib.Dec.{eqb, ltb, leb}
+use lib.Dec.{eqb}
 use lib.ListN.{length, take, drop, get_or, replicate, length-replicate}
 use Rattle.numbers.specs.Bytes.{le16, mem}
 use Rattle.numbers.specs.Bits.{bit_at, marked}
 use Rattle.numbers.proofs.Parts.{rest}
-use Rattle.numbers.proofs.Tests.{clash, and_left, and_right, or_left, or_right}
+use Rattle.numbers.proofs.Tests.{clash}
 use Rattle.numbers.proofs.Marks.{Marks, marks_none, marks_more, marked_length}
 use Rattle.book.specs.declared.Verdict as Code
 use Rattle.book.specs.declared.Verdict.TheVariants.{Sound, Broken}
-use Rattle.book.specs.Records.{Member, size, stop, kind_of, members_of, Record, record_at, records, is_field, is_kind, LookUp, nothing, found, look_up, is_found, type_of, is_length, is_count, is_bounded, group_of}
+use Rattle.book.specs.Records.{Member, size, stop, kind_of, members_of, Record, record_at, records, is_field, LookUp, found, look_up, is_found, type_of, group_of}
 use Rattle.book.specs.Rules.{rule1, rule2, rule3, rule4, rule5, rule6, rule7, rule8, rule9, Opened, once, conflict, and_open, open_list, open_group, conflicts}
 use Rattle.book.specs.Check.{Verdict, sound, broken, first, and_then, filled, rule_of, rules_from, check}
 use Rattle.book.specs.Answers.{told, Declares, Pairs, Prepared, marks, Marked, is_marked, Seen, Opens}

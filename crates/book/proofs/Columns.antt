@@ -1,10 +1,10 @@
 -- A record's columns, by what the code reads of s, the book b from the record's offset on. Assumes nothing.
-use mathlib.Core.Path.{◌≡◌, refl, sym, ap, ◌∙◌}
+use mathlib.Core.Path.{◌≡◌, refl, sym, ◌∙◌}
 use mathlib.Core.List.{List}
 use Prim.Native.Nat.{ℕ}
 use lib.ListN.{take, drop}
 use Rattle.numbers.specs.Bytes.{le16}
-use Rattle.book.specs.Records.{kind_of, members_of, member_bytes, Record, record_at}
+use Rattle.book.specs.Records.{kind_of, members_of, member_bytes, record_at}
 
 module _ (b s : List ℕ) (at : ℕ) (e : s ≡ drop at b) where
   pub kind_col : (k : ℕ) → k ≡ kind_of (le16 s) (le16 (drop 2 s)) → (record_at at (drop at b)).kind ≡ k

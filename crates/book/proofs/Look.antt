@@ -1,17 +1,17 @@
 -- Laws of looking for a record. Assumes nothing.
 use mathlib.Core.Path.{◌≡◌, refl, sym, ap, ◌∙◌}
-use mathlib.Core.Bool.{Bool, true, false, cond, ◌&&◌, and-true, and-false}
+use mathlib.Core.Bool.{Bool, true, false, cond, and-true, and-false}
 use mathlib.Core.List.{List, [], ◌∷◌, ◌++◌, append-nil}
-use Prim.Native.Nat.{ℕ, zero, suc, ◌+◌, ◌-◌, ◌≤◌, ◌<◌, zero-le}
+use Prim.Native.Nat.{ℕ, suc, ◌+◌, ◌-◌, ◌≤◌, ◌<◌, zero-le}
 use native.Mathlib.Omega.{arith}
 use native.Mathlib.Numerals.{add-one}
 use borrow.Author.Tests.{eq-eqb, ne_eqb}
 use lib.Dec.{eqb}
 use lib.ListN.{length, take, drop, get_or, drop_of_length-le}
-use lib.Seq.{take-suc, take_all, drop-cons, drop-length, take-length}
+use lib.Seq.{take-suc, take_all, drop-cons}
 use Rattle.numbers.specs.Bytes.{le16, same}
 use Rattle.numbers.proofs.Parts.{rest}
-use Rattle.book.specs.Records.{size, walk, kind_of, Record, record_at, records, is_kind, is_message, type_text, LookUp, nothing, found, look_up}
+use Rattle.book.specs.Records.{size, walk, kind_of, Record, record_at, records, is_kind, is_message, type_text, nothing, found, look_up}
 use Rattle.book.proofs.Walk.{walk_end, walk_turn, within}
 
 -- the records from an offset on

@@ -1,16 +1,14 @@
 -- Laws of member lists and of what a look-up finds. Assumes nothing.
 use mathlib.Core.Path.{◌≡◌, refl, sym, ap, ◌∙◌}
-use mathlib.Core.Bool.{Bool, true, false, cond}
+use mathlib.Core.Bool.{Bool}
 use mathlib.Core.List.{List, [], ◌∷◌}
-use Prim.Native.Nat.{ℕ, zero, suc, ◌+◌, ◌-◌, ◌≤◌, ◌<◌, zero-le}
+use Prim.Native.Nat.{ℕ, ◌+◌, ◌≤◌, ◌<◌, zero-le}
 use native.Mathlib.Omega.{arith}
-use native.Mathlib.Numerals.{add-one}
 use borrow.Author.Tests.{eq-eqb, ne_eqb}
-use lib.Dec.{eqb}
-use lib.ListN.{length, take, drop, length-drop}
+use lib.ListN.{length, drop, length-drop}
 use lib.Seq.{drop-drop}
 use Rattle.numbers.specs.Bytes.{le16}
-use Rattle.book.specs.Records.{Member, members_of, member_bytes, Record, record_at, records, is_kind, is_group, LookUp, nothing, found, look_up, is_found, type_in, partner_in, members_in, type_of, partner, group_of, message_of, is_message, place_in}
+use Rattle.book.specs.Records.{Member, members_of, member_bytes, Record, record_at, records, is_kind, is_group, LookUp, nothing, found, look_up, members_in, type_of, partner, group_of, message_of, is_message, place_in}
 use Rattle.book.specs.declared.Found.{Found}
 use Rattle.book.specs.declared.Found.TheVariants.{At, Nothing}
 use Rattle.book.specs.Answers.{found_in}

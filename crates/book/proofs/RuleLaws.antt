@@ -1,23 +1,22 @@
 -- Laws of rules 2 to 8, over a record whose columns are known. Assumes nothing.
 use mathlib.Core.Path.{◌≡◌, refl, sym, ap, ◌∙◌}
-use mathlib.Core.Bool.{Bool, true, false, cond, ◌&&◌, ◌||◌, not, or-false, and-true}
+use mathlib.Core.Bool.{Bool, true, false, cond, ◌&&◌, ◌||◌, not, or-false}
 use mathlib.Core.List.{List, [], ◌∷◌}
-use Prim.Native.Nat.{ℕ, zero, suc, ◌+◌, ◌-◌, ◌≤◌, ◌<◌, zero-le}
+use Prim.Native.Nat.{ℕ, ◌+◌, ◌≤◌, ◌<◌}
 use native.Mathlib.Omega.{arith}
 use native.Mathlib.Numerals.{add-one}
-use borrow.Author.Tests.{eqb-true, eqb-false, eq-eqb, ne_eqb, le-leb, lt-leb}
+use borrow.Author.Tests.{eqb-true, eq-eqb, ne_eqb, le-leb, lt-leb}
 use lib.Dec.{eqb, leb}
-use lib.ListN.{length, take, drop, get_or, drop_of_length-le}
+use lib.ListN.{length, drop, get_or, drop_of_length-le}
 use lib.Seq.{drop-cons}
 use Rattle.numbers.specs.Bytes.{le16, mem}
 use Rattle.numbers.specs.Bits.{bit_at}
-use Rattle.numbers.proofs.Tests.{clash}
 use Rattle.book.specs.declared.Found.{Found}
 use Rattle.book.specs.declared.Found.TheVariants.{At, Nothing}
 use Rattle.book.specs.Records.{Member, members_of, Record, records, is_field, is_group, is_message, is_kind, type_text, LookUp, look_up, is_found, type_of, partner, is_length, is_count, is_bounded}
-use Rattle.book.specs.Rules.{zeros, text_rest, good_type_text, first_at, earlier, partnered, good_members, paired, starts_required, rule2, rule3, rule4, rule5, rule6, rule7, rule8}
-use Rattle.book.specs.Answers.{found_in, Declares, Pairs}
-use Rattle.book.proofs.Members.{member_of, members_cons, members_none, members_at, members_past}
+use Rattle.book.specs.Rules.{zeros, text_rest, good_type_text, first_at, partnered, good_members, paired, starts_required, rule2, rule3, rule4, rule5, rule6, rule7, rule8}
+use Rattle.book.specs.Answers.{found_in, Declares}
+use Rattle.book.proofs.Members.{members_cons, members_none, members_at, members_past}
 
 abbrev printable : ℕ → Bool
 printable b = leb 33 b && leb b 126

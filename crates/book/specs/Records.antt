@@ -1,5 +1,5 @@
 -- The book: a run of records, what they declare, and what is declared of a tag. Assumes nothing.
-use Rattle.std.specs.Prelude.{ℕ, zero, suc, ◌+◌, ◌-◌, ◌%◌, Bool, true, false, cond, ◌&&◌, ◌||◌, List, [], ◌∷◌, leb, eqb, length, take, drop}
+use Rattle.std.specs.Prelude.{ℕ, zero, suc, ◌+◌, ◌-◌, ◌%◌, Bool, true, false, cond, ◌&&◌, List, [], ◌∷◌, leb, eqb, length, take, drop}
 use Rattle.numbers.specs.Bytes.{le16, same}
 
 -- the bytes of the record at the head, its length's two included; 0 where none of length 2 or more stands there whole

@@ -1,5 +1,5 @@
 -- A form of text as data, and the texts that it takes. Assumes nothing.
-use Rattle.std.specs.Prelude.{ℕ, zero, suc, ◌+◌, Bool, true, false, ◌&&◌, ◌||◌, List, [], ◌∷◌, ◌++◌, leb}
+use Rattle.std.specs.Prelude.{ℕ, Bool, true, false, ◌&&◌, ◌||◌, List, [], ◌∷◌, leb}
 
 infixr 60 ◌▷◌
 infixr 50 ◌∣◌

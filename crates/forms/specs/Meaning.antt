@@ -1,7 +1,7 @@
 -- What each kind of form takes: the laws that say that `accepts` means what the comments in Form say. Assumes nothing.
-use Rattle.std.specs.Prelude.{◌≡◌, refl, ℕ, Bool, true, false, ◌&&◌, ◌||◌, List, [], ◌∷◌, ◌++◌, leb}
+use Rattle.std.specs.Prelude.{◌≡◌, refl, ℕ, Bool, true, false, ◌&&◌, ◌||◌, List, [], ◌∷◌, leb}
 use Rattle.std.proofs.Common.{sym, ap, ◌∙◌}
-use Rattle.std.proofs.Math.Bool.{or-false, or-true, false-or}
+use Rattle.std.proofs.Math.Bool.{or-false}
 use Rattle.forms.specs.Form.{Form, none, nil, one, ◌▷◌, ◌∣◌, many, seq, alt_r, alt, null, after, accepts}
 
 -- some way to cut s in two has p of the front and q of the rest

@@ -1,7 +1,7 @@
 -- The digit and time types in document 01's own words: digits with a rule on their value, two digits from lo to hi at their places.
 -- proofs/ shows each equal to its form in Types. Assumes nothing.
 use Rattle.std.specs.Prelude.{ℕ, Bool, true, false, ◌&&◌, ◌||◌, List, [], ◌∷◌, leb, ltb, eqb, length, take, drop}
-use Rattle.numbers.specs.Bytes.{some, mem}
+use Rattle.numbers.specs.Bytes.{mem}
 use Rattle.numbers.specs.Decimal.{digits, value}
 
 -- 6 and 7: digits, above zero

@@ -1,5 +1,4 @@
 use Rattle.book.proofs.Checks.{check_over, check_torn, check_rules}
-use borrow.Author.Rules.{rules}
 use Rattle.book.proofs.checking.check_with.Goals as goal
 
 pub returns-then-book-gt16384 : goal.returns-then-book-gt16384

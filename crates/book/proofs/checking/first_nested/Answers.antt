@@ -17,7 +17,7 @@ pub breaks_9-requires : goal.breaks_9-requires
 breaks_9-requires c = c.loop-at.invariant.1 ∙ c.requires
 
 pub shape_of-map-then-breaks_9 : goal.shape_of-map-then-breaks_9
-shape_of-map-then-breaks_9 c = c.breaks_9.auto.1.1.0 ∙ c.loop-at.invariant.1
+shape_of-map-then-breaks_9 c = c.breaks_9.auto.map ∙ c.loop-at.invariant.1
 
 pub returns-then-breaks_9 : goal.returns-then-breaks_9
 returns-then-breaks_9 c = first_hit _ _ _ _ _ c.loop-at.invariant.0 c.record_size-n.ensures c.if-n-eq0.false _ (by_9 _ _ _ _ refl c.breaks_9.ensures) c.if-breaks_9.true
@@ -29,4 +29,4 @@ pub loop-at-smaller : goal.loop-at-smaller
 loop-at-smaller c = omega (arith, c.if-n-eq0.false, within c.args.book.now c.loop-at.at _ c.record_size-n.ensures c.loop-at.invariant.0.0)
 
 pub loop-at-preserved : goal.loop-at-preserved
-loop-at-preserved c = (first_turn _ _ _ _ _ c.loop-at.invariant.0 c.record_size-n.ensures c.if-n-eq0.false _ (by_9 _ _ _ _ refl c.breaks_9.ensures) c.if-breaks_9.false, c.breaks_9.auto.1.1.0 ∙ c.loop-at.invariant.1)
+loop-at-preserved c = (first_turn _ _ _ _ _ c.loop-at.invariant.0 c.record_size-n.ensures c.if-n-eq0.false _ (by_9 _ _ _ _ refl c.breaks_9.ensures) c.if-breaks_9.false, c.breaks_9.auto.map ∙ c.loop-at.invariant.1)

@@ -27,7 +27,7 @@ pub and_rule-eight-requires : goal.and_rule-eight-requires
 and_rule-eight-requires c = (lit≤ tt, lit≤ tt, unprepared _ _ _ (λ e. omega (arith, e)) (λ e. omega (arith, e)))
 
 pub and_nested-requires : goal.and_nested-requires
-and_nested-requires c = c.mark_fields-2.auto.1.1.0 ∙ c.mark_fields.auto.1.1.0 ∙ c.requires
+and_nested-requires c = c.mark_fields-2.auto.map ∙ c.mark_fields.auto.map ∙ c.requires
 
 pub returns : goal.returns
 returns c = in_order (records c.args.book.now) _ _ _ _ _ _ _ _ c.first_break-two.ensures c.and_rule-three.ensures c.and_rule-four.ensures c.and_rule-five.ensures c.and_rule-six.ensures c.and_rule-seven.ensures c.and_rule-eight.ensures c.and_nested.ensures

@@ -1,6 +1,5 @@
 use Rattle.book.proofs.Look.{look_start, look_none, look_hit, look_turn}
 use Rattle.book.proofs.Walk.{within}
-use Rattle.book.specs.Records.{is_kind}
 use native.Mathlib.Omega.{arith}
 use Rattle.book.proofs.lookup.find_record.Goals as goal
 
@@ -11,17 +10,17 @@ pub returns-then-n-eq0 : goal.returns-then-n-eq0
 returns-then-n-eq0 c = look_none _ _ _ _ c.loop-kind.invariant c.record_size-n.ensures c.if-n-eq0.true
 
 pub returns-then-is_kind : goal.returns-then-is_kind
-returns-then-is_kind c = let l = c in
-    look_hit _ _ _ _ l.loop.invariant c.record_size-n.ensures c.if-n-eq0.false _ c.is_kind.ensures c.if-is_kind.true
+returns-then-is_kind c =
+    look_hit _ _ _ _ c.loop-kind.invariant c.record_size-n.ensures c.if-n-eq0.false _ c.is_kind.ensures c.if-is_kind.true
 
 pub overflow_add-at : goal.overflow_add-at
-overflow_add-at c = let l = c in
-    omega (arith, within l.before.before.args.book.now l.loop.at _ c.record_size-n.ensures l.loop.invariant.0)
+overflow_add-at c =
+    omega (arith, within c.args.book.now c.loop-kind.at _ c.record_size-n.ensures c.loop-kind.invariant.0)
 
 pub loop-kind-smaller : goal.loop-kind-smaller
-loop-kind-smaller c = let l = c in
-    omega (arith, c.if-n-eq0.false, within l.before.before.args.book.now l.loop.at _ c.record_size-n.ensures l.loop.invariant.0)
+loop-kind-smaller c =
+    omega (arith, c.if-n-eq0.false, within c.args.book.now c.loop-kind.at _ c.record_size-n.ensures c.loop-kind.invariant.0)
 
 pub loop-kind-preserved : goal.loop-kind-preserved
-loop-kind-preserved c = let l = c in
-    look_turn _ _ _ _ l.loop.invariant c.record_size-n.ensures c.if-n-eq0.false _ c.is_kind.ensures c.if-is_kind.false
+loop-kind-preserved c =
+    look_turn _ _ _ _ c.loop-kind.invariant c.record_size-n.ensures c.if-n-eq0.false _ c.is_kind.ensures c.if-is_kind.false

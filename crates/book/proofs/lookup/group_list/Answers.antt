@@ -4,9 +4,9 @@ use mathlib.Core.Path.{◌∙◌}
 use Rattle.book.proofs.lookup.group_list.Goals as goal
 
 pub returns-in_default : goal.returns-in_default
-returns-in_default c = let a = c.args in let e = not_there a.book.now (is_kind 3 a.tag) _ c.find_record.ensures c.enum_told-1.given.1 in
+returns-in_default c = let a = c.args in let e = not_there a.book.now (is_kind 3 a.tag) _ c.find_record.ensures c.in_default.is in
     no_members (look_up (is_kind 3 a.tag) (records a.book.now)) e ∙ group_is a.book.now a.tag
 
 pub returns : goal.returns
-returns c = let a = c.args in let e = there a.book.now (is_kind 3 a.tag) _ c.find_record.ensures _ c.at-1.given.1 in
+returns c = let a = c.args in let e = there a.book.now (is_kind 3 a.tag) _ c.find_record.ensures _ c.in-At.is in
     found_members a.book.now _ (look_up (is_kind 3 a.tag) (records a.book.now)) _ _ e c.rest.ensures c.record_members.ensures ∙ group_is a.book.now a.tag
