@@ -9,21 +9,21 @@ mod rules;
 pub use checking::check;
 
 // The lowest rule broken, and the offset of the first record that breaks it.
-#[derive(Drop)]
+#[derive(Clone, Copy)]
 pub enum Verdict {
     Sound,
     Broken(u16, usize),
 }
 
 // What a tag is declared as; datatype 0 for none.
-#[derive(Drop)]
+#[derive(Clone, Copy)]
 pub struct Declared {
     pub datatype: u16,
     pub partner: u16,
 }
 
 // The first record that was looked for.
-#[derive(Drop)]
+#[derive(Clone, Copy)]
 pub enum Found {
     At(usize),
     Nothing,

@@ -9,7 +9,7 @@ use lib.Dec.{eqb, ltb}
 use lib.ListN.{length}
 use borrow.Author.Tests.{eqb-true, eqb-false, ltb-true, ltb-false, lt-ltb, le-ltb}
 use Rattle.numbers.proofs.Tests.{and_right}
-use Rattle.index.specs.Questions.{Found, row, absent, lowest, row_count, number, of_instance, instance_row, if_row, walk_from, walk, step, steps, answers}
+use Rattle.index.specs.Questions.{Found, row, absent, row_count, number, of_instance, instance_row, if_row, walk_from, walk, step, steps, answers}
 use Rattle.index.proofs.Lowest.{lowest_found}
 
 -- ---- a function that takes t values takes them on t arguments

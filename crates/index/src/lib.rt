@@ -10,7 +10,7 @@ ghost use Rattle.index.specs.Answers.{found_of};
 pub const WIDTH: usize = 6;
 
 // "it answers the row or that the tag is absent there".
-#[derive(Drop)]
+#[derive(Clone, Copy)]
 pub enum Found {
     Row(usize),
     Absent,
@@ -113,7 +113,7 @@ pub fn step(rows: &[u16], count: usize, row: usize) -> Found
 
 // "a walker that holds the lent index and its place": the index, the count row, and the row at which it stands. Where that is no row of
 // the index it has not begun. The instance at which it stands is that row's. At the end it stays where it is, and the answer stays.
-#[derive(Drop)]
+#[derive(Clone, Copy)]
 pub struct Walker<'a> {
     rows: &'a [u16],
     count: usize,

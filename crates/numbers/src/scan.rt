@@ -4,7 +4,7 @@ ghost use Rattle.numbers.specs.Decimal.{digit, value};
 ghost use Rattle.numbers.specs.Scan.{upto, leading_digits};
 
 // The value of the digits in front, capped, and the place behind them.
-#[derive(Drop)]
+#[derive(Clone, Copy)]
 pub struct Number {
     pub value: usize,
     pub end: usize,

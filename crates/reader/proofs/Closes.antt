@@ -1,17 +1,17 @@
 -- Laws of closing and refusing. Assumes nothing.
 use mathlib.Core.Path.{◌≡◌, refl, sym, ap, ◌∙◌}
-use mathlib.Core.Bool.{Bool, true, false, cond, ◌&&◌, ◌||◌, not}
-use mathlib.Core.List.{List, [], ◌∷◌}
+use mathlib.Core.Bool.{Bool, true, false, cond, ◌&&◌, ◌||◌}
+use mathlib.Core.List.{List, []}
 use Prim.Native.Nat.{ℕ}
 use borrow.Author.Tests.{eq-eqb, ne_eqb}
 use lib.Dec.{eqb}
 use Rattle.book.specs.Records.{Member, members_of, is_bounded}
 use Rattle.message.specs.Arrangement.{Page}
-use Rattle.message.specs.Permitted.{has_tag, Miss, none, lacks}
+use Rattle.message.specs.Permitted.{has_tag, none, lacks}
 use Rattle.reader.specs.declared.Step.{Step}
 use Rattle.reader.specs.declared.Step.TheVariants.{Done, Refused, Ask}
 use Rattle.reader.specs.Fields.{torn, peek}
-use Rattle.reader.specs.Items.{is_first, starts, has_place}
+use Rattle.reader.specs.Items.{has_place}
 use Rattle.reader.specs.Filling.{Fill, full, poor, ask, late_fill, f_refuse, f_close}
 use Rattle.reader.specs.Met.{miss_of, Says}
 

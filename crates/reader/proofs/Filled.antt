@@ -1,6 +1,6 @@
 -- The reading that puts down rows as it goes gives the rows of what the other reading gives. Assumes nothing.
 use mathlib.Core.Path.{◌≡◌, refl, sym, ap, ◌∙◌}
-use mathlib.Core.Bool.{Bool, true, false, cond, ◌&&◌, ◌||◌, not}
+use mathlib.Core.Bool.{Bool, true, false, ◌||◌}
 use mathlib.Core.List.{List, [], ◌∷◌, ◌++◌}
 use Prim.Native.Nat.{ℕ, zero, suc, ◌+◌}
 use lib.Dec.{eqb}
@@ -8,12 +8,12 @@ use lib.ListN.{length}
 use Rattle.numbers.specs.Bytes.{mem}
 use Rattle.numbers.specs.Decimal.{value}
 use Rattle.book.specs.Records.{Member, group_of, is_count, is_bounded}
-use Rattle.message.specs.Arrangement.{Piece, single, pair, Node, leaf, count, Item, Page}
+use Rattle.message.specs.Arrangement.{single, pair, Page}
 use Rattle.message.specs.Permitted.{has_tag, Miss, none, lacks, note, lacking}
-use Rattle.message.specs.Rows.{Row, piece_size, field_size, piece_rows, past_all, past_node, past_item, rows_all, rows_insts, rows_node, rows_item}
+use Rattle.message.specs.Rows.{Row, field_size, piece_rows, past_all, past_node, past_item, rows_all, rows_insts, rows_node, rows_item}
 use Rattle.reader.specs.Fields.{torn, peek, Grab, got, fault, grab}
 use Rattle.reader.specs.Items.{Out, done, bad, late, and_then, onto, is_first, has_place, starts, refuse, close, members, inst, insts, closed, group, node_by, read_item, ending, own_list, read_items}
-use Rattle.reader.specs.Filling.{Fill, full, poor, ask, before, next, late_fill, f_refuse, f_close, f_members, f_inst, f_insts, f_closed, f_group, f_node_by, f_item, f_ending, f_own, f_items}
+use Rattle.reader.specs.Filling.{Fill, full, poor, before, next, late_fill, f_refuse, f_close, f_members, f_inst, f_insts, f_closed, f_group, f_node_by, f_item, f_ending, f_own, f_items}
 
 -- an outcome as rows
 abbrev pub fill_of : {X : Type 0} → ℕ → (ℕ → X → ℕ) → (ℕ → ℕ → X → List Row) → ℕ → ℕ → Out X → Fill

@@ -1,21 +1,20 @@
 -- Laws of the questions on member lists. Assumes nothing.
 use mathlib.Core.Path.{◌≡◌, refl, sym, ap, ◌∙◌}
-use mathlib.Core.Bool.{Bool, true, false, cond, ◌&&◌, ◌||◌, not, and-false}
+use mathlib.Core.Bool.{Bool, true, false, cond, ◌||◌, not, and-false}
 use mathlib.Core.List.{List, [], ◌∷◌}
-use Prim.Native.Nat.{ℕ, zero, suc, ◌+◌, ◌-◌, ◌*◌, ◌≤◌, ◌<◌, zero-le}
+use Prim.Native.Nat.{ℕ, zero, suc, ◌+◌, ◌-◌, ◌≤◌, ◌<◌}
 use native.Mathlib.Omega.{arith}
-use borrow.Author.Tests.{eqb-true, eq-eqb, ne_eqb}
+use borrow.Author.Tests.{eq-eqb, ne_eqb}
 use lib.Dec.{eqb}
 use lib.ListN.{length, drop, get_or}
 use lib.Seq.{get_or-drop, drop-drop}
 use Rattle.numbers.specs.Bytes.{le16}
-use Rattle.book.specs.Records.{Member, required, members_of, member_bytes, Record, record_at, size, walk_from, walk, records, is_kind, LookUp, nothing, found, look_up, type_of, group_of, is_count, is_bounded}
-use Rattle.book.proofs.Members.{member_of, members_cons, members_none, members_at, members_past}
-use Rattle.message.specs.Arrangement.{Page}
-use Rattle.message.specs.Permitted.{has_tag, Miss, none, lacks, spare, note}
+use Rattle.book.specs.Records.{Member, members_of, member_bytes, Record, record_at, size, walk_from, walk, records, is_kind, nothing, look_up, type_of, group_of, is_bounded}
+use Rattle.book.proofs.Members.{members_cons, members_none, members_at, members_past}
+use Rattle.message.specs.Permitted.{has_tag, note}
 use Rattle.reader.specs.Items.{is_first, starts, stands_in, stands_under, has_place}
-use Rattle.reader.specs.Filling.{Seek, passed, met, seek_in}
-use Rattle.reader.specs.Met.{miss_of, list_at, page_of, outer_by}
+use Rattle.reader.specs.Filling.{passed, met, seek_in}
+use Rattle.reader.specs.Met.{miss_of, list_at, page_of}
 
 -- the loop that looks for a tag
 abbrev pub Having : List ℕ → ℕ → ℕ → Type 0

@@ -1,18 +1,18 @@
 -- Laws of rows that are put down one behind the other. Assumes nothing.
-use mathlib.Core.Path.{◌≡◌, refl, sym, ap, ◌∙◌}
-use mathlib.Core.Bool.{Bool, true, false, cond}
-use mathlib.Core.List.{List, [], ◌∷◌, ◌++◌, append-nil}
-use Prim.Native.Nat.{ℕ, zero, suc, ◌+◌, ◌-◌, ◌*◌, ◌/◌, ◌%◌, ◌≤◌, ◌<◌}
+use mathlib.Core.Path.{◌≡◌, refl, sym, ◌∙◌}
+use mathlib.Core.Bool.{Bool, true, false}
+use mathlib.Core.List.{List, [], ◌∷◌, ◌++◌}
+use Prim.Native.Nat.{ℕ, suc, ◌+◌, ◌*◌, ◌/◌, ◌%◌, ◌≤◌, ◌<◌}
 use native.Mathlib.Omega.{arith}
 use native.Mathlib.Nat.{add-zero}
 use native.Mathlib.Numerals.{towards_suc}
 use borrow.Author.Tests.{le-leb, lt-leb}
 use lib.Dec.{leb}
-use lib.ListN.{length, take, drop, set, length-drop, length-append, length-take}
-use lib.Seq.{sets, length-sets, sets-eq, length-take-le, take-append_seam, drop-append_seam}
+use lib.ListN.{length, set, length-append}
+use lib.Seq.{sets, length-sets}
 use Rattle.numbers.specs.Bytes.{little_endian}
-use Rattle.message.specs.Rows.{Row, flat}
-use Rattle.reader.specs.Filling.{put_row, put_rows, row_numbers, row_bytes}
+use Rattle.message.specs.Rows.{Row}
+use Rattle.reader.specs.Filling.{put_row, put_rows, row_bytes}
 use Rattle.reader.specs.declared.Line.{Line}
 use Rattle.reader.specs.Met.{line_row}
 

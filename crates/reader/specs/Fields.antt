@@ -1,5 +1,5 @@
 -- How a field is taken off the bytes up to the closing `10=`: steps 1, 2 and 4 of "At a field". Assumes nothing.
-use Rattle.std.specs.Prelude.{ℕ, min, Bool, true, false, ◌&&◌, ◌||◌, not, List, [], ◌∷◌, length, take, drop}
+use Rattle.std.specs.Prelude.{ℕ, min, ◌&&◌, List, [], ◌∷◌, take, drop}
 use Rattle.std.proofs.Math.Bool.{cond}
 use Rattle.std.proofs.Math.Dec.{eqb, ltb}
 use Rattle.numbers.specs.Bytes.{some}

@@ -1,11 +1,11 @@
 -- What the reading's functions answer that put down rows as they go and build no tree: proofs/Filled shows it equal to Items.
 -- Nothing here has to be believed. `w` is a watched tag: whether it was in an instance is known, of another late one it is asked. Assumes nothing.
-use Rattle.std.specs.Prelude.{ℕ, zero, suc, ◌+◌, ◌*◌, Bool, true, false, cond, ◌&&◌, ◌||◌, not, List, [], ◌∷◌, ◌++◌, eqb, leb, length}
+use Rattle.std.specs.Prelude.{ℕ, zero, suc, ◌+◌, ◌*◌, Bool, false, cond, ◌||◌, List, [], ◌∷◌, ◌++◌, eqb, leb, length}
 use Rattle.std.proofs.lemmas.List.Edits.{sets}
 use Rattle.numbers.specs.Bytes.{mem, little_endian}
 use Rattle.numbers.specs.Decimal.{value}
 use Rattle.book.specs.Records.{Record, Member, group_of, is_count, is_bounded}
-use Rattle.message.specs.Arrangement.{Piece, single, pair, Page}
+use Rattle.message.specs.Arrangement.{single, pair, Page}
 use Rattle.message.specs.Permitted.{has_tag, Miss, none, lacks, note, lacking}
 use Rattle.message.specs.Rows.{Row, piece_size, field_size, piece_rows}
 use Rattle.reader.specs.Fields.{torn, peek, Grab, got, fault, grab}

@@ -1,5 +1,5 @@
 -- The frame of a message: fields 8, 9 and 35 from the front, 10 by its seven bytes from the end. Refusals 3 to 7. Assumes nothing.
-use Rattle.std.specs.Prelude.{ℕ, ◌-◌, ◌%◌, Bool, true, false, cond, ◌&&◌, List, [], ◌∷◌, ◌++◌, eqb, leb, length, take, drop}
+use Rattle.std.specs.Prelude.{ℕ, ◌-◌, ◌%◌, cond, ◌&&◌, List, [], ◌∷◌, ◌++◌, eqb, leb, length, take, drop}
 use Rattle.numbers.specs.Bytes.{total, some}
 use Rattle.numbers.specs.Decimal.{digits, value_from, value}
 use Rattle.book.specs.Records.{Record, LookUp, nothing, found, message_of}

@@ -1,7 +1,7 @@
 -- What the code's structs and enums say, in the definitions' words. Assumes nothing.
-use Rattle.std.specs.Prelude.{◌≡◌, Bool, true, false, cond, ◌||◌, ℕ, ◌+◌, ◌≤◌, List, [], eqb, length, drop}
+use Rattle.std.specs.Prelude.{◌≡◌, Bool, cond, ◌||◌, ℕ, ◌+◌, ◌≤◌, List, [], eqb, length, drop}
 use Rattle.numbers.specs.Bytes.{le16}
-use Rattle.book.specs.Records.{Record, Member, members_of, member_bytes, records}
+use Rattle.book.specs.Records.{Member, members_of, member_bytes, records}
 use Rattle.message.specs.Arrangement.{Page}
 use Rattle.message.specs.Permitted.{Miss, none, lacks}
 use Rattle.reader.specs.declared.Sought.{Sought}

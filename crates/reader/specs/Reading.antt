@@ -1,5 +1,5 @@
 -- What reading answers, for any book, any message and any room. Assumes nothing.
-use Rattle.std.specs.Prelude.{ℕ, ◌-◌, ◌*◌, Bool, true, false, cond, List, [], ◌∷◌, ◌++◌, ltb, leb, length, take, drop}
+use Rattle.std.specs.Prelude.{ℕ, ◌-◌, ◌*◌, true, false, cond, List, ◌++◌, ltb, leb, length, take, drop}
 use Rattle.book.specs.Records.{Record, records}
 use Rattle.book.specs.Check.{check, is_sound}
 use Rattle.message.specs.Arrangement.{Items, Arrangement}

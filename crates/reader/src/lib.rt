@@ -8,7 +8,7 @@ pub mod lists;
 pub mod rows;
 
 // A list walked down to a tag: the place behind its member, or the list's end; and a required member that was passed, 65,536 for none.
-#[derive(Drop)]
+#[derive(Clone, Copy)]
 pub struct Sought {
     pub found: bool,
     pub at: usize,
@@ -16,7 +16,7 @@ pub struct Sought {
 }
 
 // Where fields 8, 9 and 35 end, each behind its `|`; or a refusal's number and place.
-#[derive(Drop)]
+#[derive(Clone, Copy)]
 pub enum Framed {
     Framed(usize, usize, usize),
     Misframed(u16, usize),
@@ -24,7 +24,7 @@ pub enum Framed {
 
 // A field taken off: tag, datatype, start and end of the value; or a Length and its data, tag, start and end of each; or a refusal's
 // number and place.
-#[derive(Drop)]
+#[derive(Clone, Copy)]
 pub enum Grabbed {
     Single(u16, u16, usize, usize),
     Pair(u16, usize, usize, u16, usize, usize),
@@ -32,7 +32,7 @@ pub enum Grabbed {
 }
 
 // A part that was read: the place behind it and the next row; or a refusal's number, tag and place; or a late tag that is not watched.
-#[derive(Drop)]
+#[derive(Clone, Copy)]
 pub enum Step {
     Done(usize, usize),
     Refused(u16, u32, usize),
@@ -40,7 +40,7 @@ pub enum Step {
 }
 
 // A row of the index: tag, value start, value length, depth, count row, instance.
-#[derive(Drop)]
+#[derive(Clone, Copy)]
 pub struct Line {
     pub tag: u16,
     pub start: u16,
@@ -51,7 +51,7 @@ pub struct Line {
 }
 
 // The groups that are open around the one in hand, innermost first: the offsets of their records, 65,535 for none.
-#[derive(Drop)]
+#[derive(Clone, Copy)]
 pub struct Open {
     pub a: u16,
     pub b: u16,
