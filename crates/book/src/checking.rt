@@ -179,6 +179,7 @@ fn rules(book: &[u8], map: &mut [u8]) -> Verdict
     and_nested(eight, book, map)
 }
 
+#[tactic(auto, using(crate::proofs::Checks::check_over))]
 fn check_with(book: &[u8], map: &mut [u8]) -> Verdict
     requires { length map.old ≡ 8192 }
     ensures { told result ≡ check book.now }
