@@ -1,27 +1,24 @@
 -- In a permitted arrangement of a sound book no list of fields has a tag twice. Assumes nothing.
 use mathlib.Core.Path.{◌≡◌, refl, sym, ap, ◌∙◌}
-use mathlib.Core.Bool.{Bool, true, false, cond, ◌&&◌, ◌||◌, not, or-true}
+use mathlib.Core.Bool.{Bool, true, false, ◌&&◌, ◌||◌, not, or-true}
 use mathlib.Core.List.{List, [], ◌∷◌, ◌++◌, map}
 use mathlib.Core.Logic.{◌⊎◌, inl, inr, ⊎_elim}
 use Prim.Native.Nat.{ℕ, zero, suc}
-use native.Mathlib.Omega.{arith}
 use lib.Dec.{eqb}
-use lib.ListN.{length}
-use borrow.Author.Tests.{eqb-true, eqb-false, eq-eqb, ne_eqb, not-true}
+use borrow.Author.Tests.{eqb-true, eq-eqb, ne_eqb, not-true}
 use Rattle.numbers.specs.Bytes.{mem}
-use Rattle.numbers.specs.Decimal.{value}
-use Rattle.numbers.proofs.Tests.{clash, to_false, and_left, and_right, or_left, or_right}
-use Rattle.book.specs.Records.{Record, Member, is_field, LookUp, found, look_up, is_found, group_of, message_of, is_count, is_length, is_bounded, partner}
-use Rattle.message.specs.Arrangement.{Piece, single, pair, Node, leaf, count, Item, node_tag, tag_of, Items, Arrangement, Page}
-use Rattle.message.specs.Permitted.{spare, good, in_order, instance, instances, fits_node, fits, has_tag, any_order, good_items, permitted}
-use Rattle.bridge.proofs.Lists.{distinct, mem_join, mem_left, mem_right, mem_behind, distinct_left, distinct_right}
+use Rattle.numbers.proofs.Tests.{clash, to_false, and_left, and_right, or_right}
+use Rattle.book.specs.Records.{Record, Member, is_field, found, look_up, is_found, group_of, message_of, is_length, is_bounded, partner}
+use Rattle.message.specs.Arrangement.{single, pair, Node, leaf, count, Item, node_tag, tag_of, Arrangement, Page}
+use Rattle.message.specs.Permitted.{spare, in_order, instance, instances, fits_node, fits, has_tag, any_order, good_items, permitted}
+use Rattle.bridge.proofs.Lists.{distinct, mem_behind, distinct_left, distinct_right}
 use Rattle.bridge.proofs.Sees.{pair_parts}
 use Rattle.bridge.proofs.Accepted.{count_parts, leaf_good, items_are}
 use Rattle.bridge.proofs.Readback.{open_by, under, placed, has_open, own_distinct, item_tidy}
 use Rattle.bridge.proofs.Sound.{Rules, undeclared, message_declared, page_sound}
-use Rattle.bridge.proofs.Whole.{Permits, permitted_parts}
+use Rattle.bridge.proofs.Whole.{permitted_parts}
 use Rattle.bridge.proofs.Pairs.{length_partner, undeclared_free}
-use Rattle.asking.specs.Once.{piece_tags, node_tags, item_tags, tags_all, Each, OnceIn, OnceNode, Once}
+use Rattle.asking.specs.Once.{node_tags, item_tags, tags_all, Each, OnceIn, Once}
 
 pub each_map : {I : Type 0} (p q : I → Type 0) → ((i : I) → p i → q i) → (l : List I) → Each p l → Each q l
 each_map p q f [] h = tt

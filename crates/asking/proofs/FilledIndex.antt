@@ -1,34 +1,33 @@
 -- The questions on an index that the reader filled: find with a row's own count row, instance and tag gives that row; the walker of a count
 -- row gives its instances, as many as its number says, in order; the value of a row is the text that the arrangement has there. By demand 3
 -- such an index is `flat (rows_of A)` for the one permitted arrangement A with the message's bytes. Assumes nothing.
-use mathlib.Core.Path.{◌≡◌, refl, sym, ap, ◌∙◌}
+use mathlib.Core.Path.{◌≡◌, refl, ap, ◌∙◌}
 use mathlib.Core.Bool.{Bool, true, false, cond, ◌&&◌, ◌||◌}
 use mathlib.Core.List.{List, [], ◌∷◌, ◌++◌, map, append-nil, append_assoc}
-use mathlib.Core.Logic.{◌⊎◌, inl, inr, ⊎_elim}
-use Prim.Native.Nat.{ℕ, zero, suc, ◌+◌, ◌≤◌, ◌<◌}
+use mathlib.Core.Logic.{inl}
+use Prim.Native.Nat.{ℕ, zero, suc, ◌+◌, ◌≤◌}
 use native.Mathlib.Omega.{arith}
 use lib.Dec.{eqb, ltb, leb}
 use lib.ListN.{length, take, drop, get_or, length-append, length-drop}
 use lib.Seq.{take_at}
-use borrow.Author.Tests.{eqb-true, ne_eqb, lt-ltb, le-ltb, le-leb}
+use borrow.Author.Tests.{eqb-true, lt-ltb, le-ltb, le-leb}
 use Rattle.numbers.specs.Bytes.{mem}
 use Rattle.numbers.proofs.Tests.{clash}
 use Rattle.book.specs.Check.{sound, check}
-use Rattle.message.specs.Arrangement.{Item, Arrangement}
+use Rattle.message.specs.Arrangement.{Arrangement}
 use Rattle.message.specs.Written.{put_field, written}
 use Rattle.message.specs.Permitted.{permitted}
-use Rattle.message.specs.Rows.{Row, width, flat, lead, field_size, row_of, past_all, rows_all, past_item, rows_item, rows_of}
+use Rattle.message.specs.Rows.{Row, flat, lead, row_of, past_all, rows_all, past_item, rows_item, rows_of}
 use Rattle.reader.specs.Reading.{looked}
-use Rattle.index.specs.Questions.{row_count, number, value_of, Found, row, absent, find, instance_row, if_row, walk_from, walk}
-use Rattle.bridge.specs.FieldList.{Field, fields_of}
-use Rattle.bridge.proofs.Lists.{distinct}
+use Rattle.index.specs.Questions.{row_count, number, value_of, row, absent, find, instance_row, if_row, walk_from, walk}
+use Rattle.bridge.specs.FieldList.{fields_of}
 use Rattle.bridge.proofs.Sound.{sound_rules}
 use Rattle.bridge.proofs.Places.{value_place, first, second, inner, rows_are, rows_say}
 use Rattle.asking.specs.Groups.{Group, count_item, groups_all, groups_item, groups_of}
-use Rattle.asking.specs.Once.{item_tags, tags_all, Each, Once}
+use Rattle.asking.specs.Once.{item_tags, tags_all, Once}
 use Rattle.asking.proofs.FirstRow.{first_row, of_group, of_key, row_count_lem, start_at, length_at, find_row, instance_row_lem}
-use Rattle.asking.proofs.Segments.{Rows, Numbered, Groups, groups_map, start_of, In, Found_at, Walks, Stretch, joined}
-use Rattle.asking.proofs.Stretches.{At, empty, one_row, Level, level, all_stretch}
+use Rattle.asking.proofs.Segments.{Numbered, Groups, groups_map, start_of, Found_at, Walks, Stretch, joined}
+use Rattle.asking.proofs.Stretches.{At, one_row, level, all_stretch}
 use Rattle.asking.proofs.Alone.{Single, permitted_single}
 
 -- the rows of a whole arrangement are one stretch

@@ -1,15 +1,15 @@
 -- Rows of an arrangement, stretch by stretch: which count rows stand in a stretch, that its rows are told apart by count row, instance and
 -- tag, and where its groups' instances begin. Assumes nothing.
 use mathlib.Core.Path.{◌≡◌, refl, sym, ap, ◌∙◌}
-use mathlib.Core.Bool.{Bool, true, false, cond, ◌&&◌}
+use mathlib.Core.Bool.{Bool, true, false, cond}
 use mathlib.Core.List.{List, [], ◌∷◌, ◌++◌}
 use mathlib.Core.Logic.{◌⊎◌, inl, inr, ⊎_elim}
 use Prim.Native.Nat.{ℕ, zero, suc, ◌+◌, ◌≤◌, ◌<◌}
 use native.Mathlib.Omega.{arith}
 use lib.Dec.{eqb}
 use lib.ListN.{length, length-append}
-use borrow.Author.Tests.{eqb-true, ne_eqb, eq-eqb}
-use Rattle.numbers.proofs.Tests.{clash, to_false, and_left, and_right}
+use borrow.Author.Tests.{eqb-true, ne_eqb}
+use Rattle.numbers.proofs.Tests.{to_false, and_left, and_right}
 use Rattle.message.specs.Rows.{Row}
 use Rattle.index.specs.Questions.{Found, row, absent}
 use Rattle.asking.specs.Groups.{Group}

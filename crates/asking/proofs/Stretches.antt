@@ -2,24 +2,24 @@
 use mathlib.Core.Path.{◌≡◌, refl, sym, ap, ◌∙◌}
 use mathlib.Core.Bool.{Bool, true, false, cond, ◌&&◌, not}
 use mathlib.Core.List.{List, [], ◌∷◌, ◌++◌}
-use mathlib.Core.Logic.{◌⊎◌, inl, inr, ⊎_elim}
+use mathlib.Core.Logic.{inl, inr, ⊎_elim}
 use Prim.Native.Nat.{ℕ, zero, suc, ◌+◌, ◌≤◌, ◌<◌}
 use native.Mathlib.Omega.{arith}
 use native.Mathlib.Numerals.{add-one}
 use lib.Dec.{eqb}
 use lib.ListN.{length, length-append}
-use borrow.Author.Tests.{eqb-true, eqb-false, ne_eqb, eq-eqb, not-true}
+use borrow.Author.Tests.{ne_eqb, eq-eqb, not-true}
 use Rattle.numbers.specs.Bytes.{mem}
 use Rattle.numbers.specs.Decimal.{value}
-use Rattle.numbers.proofs.Tests.{clash, and_left, and_right, or_left}
-use Rattle.message.specs.Arrangement.{Piece, single, pair, Node, leaf, count, Item}
-use Rattle.message.specs.Rows.{Row, field_size, row_of, piece_rows, past_all, rows_all, past_node, past_item, rows_insts, rows_node, rows_item}
-use Rattle.index.specs.Questions.{Found, row, absent}
+use Rattle.numbers.proofs.Tests.{clash, and_left, or_left}
+use Rattle.message.specs.Arrangement.{single, pair, Node, leaf, count, Item}
+use Rattle.message.specs.Rows.{Row, field_size, row_of, past_all, rows_all, past_item, rows_insts, rows_node, rows_item}
+use Rattle.index.specs.Questions.{row}
 use Rattle.bridge.proofs.Lists.{distinct, disjoint, mem_join, mem_behind, distinct_left, distinct_right}
-use Rattle.asking.specs.Groups.{Group, piece_count, count_all, starts_from, groups_all, count_node, count_item, groups_node, groups_item}
-use Rattle.asking.specs.Once.{piece_tags, node_tags, item_tags, tags_all, Each, OnceIn, OnceNode, Once}
+use Rattle.asking.specs.Groups.{Group, count_all, starts_from, groups_all, count_node, count_item, groups_node, groups_item}
+use Rattle.asking.specs.Once.{node_tags, item_tags, tags_all, Each, OnceIn, OnceNode, Once}
 use Rattle.asking.proofs.FirstRow.{first_row, of_group, of_key}
-use Rattle.asking.proofs.Segments.{Rows, Numbered, Groups, rows_map, numbered_map, numbered_both, groups_map, rows_join, first_here, first_next, first_none, first_behind, start_of, In, Found_at, Walks, Stretch, joined}
+use Rattle.asking.proofs.Segments.{Rows, Numbered, Groups, rows_map, numbered_map, numbered_both, groups_map, first_here, first_next, first_none, first_behind, start_of, In, Found_at, Walks, Stretch, joined}
 
 -- a row is found by its own key
 own_key : (r : Row) → of_key r.count_row r.instance r.tag r ≡ true

@@ -1,6 +1,5 @@
 -- Arrangements in which no list of fields, of the message or of an instance, has a tag twice. Assumes nothing.
-use Rattle.std.specs.Prelude.{◌≡◌, Bool, true, false, List, [], ◌∷◌, ◌++◌, ℕ, zero, suc, length}
-use Rattle.numbers.specs.Bytes.{some}
+use Rattle.std.specs.Prelude.{◌≡◌, true, List, [], ◌∷◌, ◌++◌, ℕ, zero, suc, length}
 use Rattle.numbers.specs.Decimal.{value}
 use Rattle.message.specs.Arrangement.{Piece, single, pair, Node, leaf, count, Item}
 use Rattle.bridge.proofs.Lists.{distinct}

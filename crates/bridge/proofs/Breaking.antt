@@ -1,25 +1,24 @@
 -- Where the reading between 35 and 10 breaks off: at the beginning of a field, or at the end of the bytes. Of any book. Assumes nothing.
 use mathlib.Core.Path.{◌≡◌, refl, sym, ap, ◌∙◌}
-use mathlib.Core.Bool.{Bool, true, false, cond, ◌&&◌, ◌||◌, not}
+use mathlib.Core.Bool.{Bool, true, false, cond, ◌&&◌, ◌||◌}
 use mathlib.Core.List.{List, [], ◌∷◌, ◌++◌}
 use mathlib.Core.Logic.{◌⊎◌, inl, inr, ⊎_elim}
 use Prim.Native.Nat.{ℕ, zero, suc, ◌≤◌}
 use native.Mathlib.Omega.{arith}
 use lib.Dec.{eqb, ltb}
 use lib.ListN.{length, take, drop}
-use borrow.Author.Tests.{eqb-true}
 use Rattle.numbers.specs.Bytes.{some, mem}
 use Rattle.numbers.specs.Decimal.{value, tag_form}
 use Rattle.numbers.proofs.Tests.{and_left, and_right}
 use Rattle.forms.specs.Types.{of_type}
 use Rattle.book.specs.Records.{Record, Member, type_of, group_of, is_length, is_count, is_bounded, partner}
-use Rattle.message.specs.Arrangement.{Piece, single, pair, Node, leaf, count, Item, tag_of, Items, Page}
+use Rattle.message.specs.Arrangement.{Piece, single, pair, Node, leaf, count, tag_of, Page}
 use Rattle.message.specs.Written.{put_field, put, put_all, put_item}
 use Rattle.message.specs.Permitted.{is_tag, good_value, good, fits, Miss, none, lacks, note, lacking, has_tag}
 use Rattle.reader.specs.Fields.{torn, Cut, uncut, cut_at, cut, peek, Grab, got, fault, ended, data_of, valued, tagged, grab}
 use Rattle.reader.specs.Items.{Out, done, bad, late, and_then, onto, is_first, has_place, starts, refuse, close, members, inst, insts, closed, group, node_by, read_item, ending, own_list, read_items}
-use Rattle.bridge.specs.Refused.{good_pieces, Past, Due, nothing, behind, put_due, good_due, Reaches, left_out, tags_onto, GroupLacks, OwnLacks, Lacks}
-use Rattle.bridge.proofs.Sees.{cut_true, single_is, legal_tag, tag_put, grab_is, tagged_is, valued_is, data_is, grab_true}
+use Rattle.bridge.specs.Refused.{good_pieces, Past, nothing, behind, put_due, Reaches, left_out, tags_onto, Lacks}
+use Rattle.bridge.proofs.Sees.{cut_true, legal_tag, tag_put, grab_is, tagged_is, valued_is, data_is, grab_true}
 use Rattle.bridge.proofs.Accepted.{tag_at, peek_item, item_true, reading_is}
 
 -- pieces one after another

@@ -10,9 +10,7 @@ use lib.ListN.{length, take, drop, length-append, length-drop, take-append-drop}
 use borrow.Author.Tests.{leb-true}
 use Rattle.numbers.specs.Bytes.{total, some}
 use Rattle.numbers.specs.Decimal.{digits, value}
-use Rattle.numbers.proofs.Tests.{and_left, and_right}
 use Rattle.book.specs.Records.{Record, LookUp, nothing, found, message_of}
-use Rattle.message.specs.Arrangement.{Page}
 use Rattle.message.specs.Written.{header}
 use Rattle.message.specs.Permitted.{versions, among}
 use Rattle.reader.specs.Fields.{Cut, uncut, cut_at}

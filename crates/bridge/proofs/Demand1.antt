@@ -5,19 +5,18 @@ use mathlib.Core.Path.{◌≡◌, refl, sym, ap, ◌∙◌}
 use mathlib.Core.Bool.{Bool, true, false, cond, ◌&&◌}
 use mathlib.Core.List.{List, [], ◌∷◌, ◌++◌}
 use mathlib.Core.Logic.{◌⊎◌, inl, inr, ⊎_elim}
-use Prim.Native.Nat.{ℕ, zero, suc, ◌+◌, ◌-◌, ◌*◌, ◌≤◌, ◌<◌}
+use Prim.Native.Nat.{ℕ, ◌+◌, ◌-◌, ◌*◌, ◌≤◌}
 use native.Mathlib.Omega.{arith}
 use lib.Dec.{ltb, leb, eqb}
 use lib.ListN.{length, length-append}
 use borrow.Author.Tests.{ltb-true, leb-false, eqb-true}
 use Rattle.numbers.specs.Decimal.{digits}
-use Rattle.numbers.proofs.Tests.{clash, and_left}
-use Rattle.book.specs.Records.{Record, records, found, group_of, message_of}
-use Rattle.book.specs.Check.{Verdict, sound, broken, filled, rules_from, check, is_sound}
+use Rattle.numbers.proofs.Tests.{and_left}
+use Rattle.book.specs.Records.{Record, records, group_of}
+use Rattle.book.specs.Check.{sound, broken, filled, rules_from, check, is_sound}
 use Rattle.message.specs.Arrangement.{Piece, tag_of, Items, Arrangement, Page}
 use Rattle.message.specs.Written.{put_field, put, put_all, header, type_field, trailer}
-use Rattle.message.specs.Permitted.{versions, among}
-use Rattle.message.specs.Rows.{Row, width, field_size, rows_of}
+use Rattle.message.specs.Rows.{Row, width, rows_of}
 use Rattle.reader.specs.Items.{Out, done, bad, late, read_items}
 use Rattle.reader.specs.Frame.{Framed, framed, misframed, frame}
 use Rattle.reader.specs.Reading.{Answer, gives, refused, on_answer, items_in, in_frame, arrangement_of, room_for, looked, read_checked, read, index_after}
@@ -25,7 +24,7 @@ use Rattle.bridge.specs.Unsound.{StandsIn, Unsound, over, torn, rule}
 use Rattle.bridge.specs.Refused.{Due, nothing, behind, put_due, Reaches, tags_onto, GroupLacks, OwnLacks, Lacks, Refusal, long, start, size, end, type, field, NoRoom, Missing, Complete, Part}
 use Rattle.bridge.proofs.Sees.{put_size, field_size_lem}
 use Rattle.bridge.proofs.Sound.{check_is}
-use Rattle.bridge.proofs.Framing.{Listed, Fits, good_sum, frame_true}
+use Rattle.bridge.proofs.Framing.{Fits, frame_true}
 use Rattle.bridge.proofs.Places.{eight, nine}
 use Rattle.bridge.proofs.Whole.{arrangement_is, arrangement_long}
 use Rattle.bridge.proofs.Demand3.{checked_is, read_sound, read_unsound, verdict_sound}

@@ -94,17 +94,19 @@ pub rows_exactly : (book : List ℕ) → check book ≡ sound → (s : List ℕ)
     → (read_checked book s room ≡ gives q) ↔ (Reads book s q × (width * length q ≤ room))
 rows_exactly book good s room q = (reads_of book s room q, (λ h. of_reads book s good room q h.0 h.1))
 
+-- Each row takes four bytes of the message at least.
+four_each : (book s : List ℕ) (q : List Row) → Reads book s q → length q * 4 ≤ length s
+four_each book s q h = rw (← h.stated, ← h.bytes) (rows_short (looked book) h.which h.allowed)
+
 -- 2,048 rows suffice for every message.
 pub enough : (book s : List ℕ) (q : List Row) → Reads book s q → length q ≤ 2048
-enough book s q h =
-    let n : length q * 4 ≤ length s = rw (← h.stated, ← h.bytes) (rows_short (looked book) h.which h.allowed) in
-    omega (arith, h.short)
+enough book s q h = let n = four_each book s q h in omega (arith, h.short)
 
 -- So with that room the rows are answered exactly if a permitted arrangement that gives the bytes states them.
 pub roomy_exactly : (book : List ℕ) → check book ≡ sound → (s : List ℕ) (room : ℕ) → width * 2048 ≤ room → (q : List Row)
     → (read_checked book s room ≡ gives q) ↔ Reads book s q
 roomy_exactly book good s room n q =
-    ((λ e. (reads_of book s room q e).0), (λ h. let m = enough book s q h in of_reads book s good room q h (omega arith)))
+    ((λ e. (reads_of book s room q e).0), (λ h. let m = four_each book s q h in of_reads book s good room q h (omega (arith, h.short))))
 
 -- Reading that checks the book accepts nothing under one that is not sound.
 pub read_sound : (book s : List ℕ) (room : ℕ) → is_sound (check book) ≡ true → read book s room ≡ read_checked book s room

@@ -1,18 +1,18 @@
 -- In the member lists of a sound book a Length and its data stand together, under equal flags. So a pair may stand exactly where the
 -- Length's tag stands: `permitted` need not ask for the data's place or flag. Assumes nothing.
 use mathlib.Core.Path.{◌≡◌, refl, sym, ap, ◌∙◌}
-use mathlib.Core.Bool.{Bool, true, false, cond, ◌&&◌, ◌||◌, not, or-true}
+use mathlib.Core.Bool.{Bool, true, false, cond, ◌&&◌, not, or-true}
 use mathlib.Core.List.{List, [], ◌∷◌, ◌++◌}
-use mathlib.Core.Logic.{◌⊎◌, inl, inr, ⊎_elim}
+use mathlib.Core.Logic.{inl, inr}
 use Prim.Native.Nat.{ℕ, ◌≤◌}
 use native.Mathlib.Omega.{arith}
 use lib.Dec.{eqb, leb}
-use borrow.Author.Tests.{eqb-true, eq-eqb, ne_eqb, le-leb, not-false}
+use borrow.Author.Tests.{eqb-true, eq-eqb, le-leb, not-false}
 use Rattle.numbers.specs.Bytes.{mem, same}
 use Rattle.numbers.proofs.Tests.{clash, and_left, and_right}
-use Rattle.book.specs.Records.{Member, required, Record, is_field, is_group, type_text, LookUp, nothing, found, look_up, is_found, type_in, partner_in, type_of, partner, members_in, group_of, message_of, is_length, is_bounded}
+use Rattle.book.specs.Records.{Member, Record, is_field, is_group, type_text, LookUp, nothing, found, look_up, is_found, type_in, partner_in, type_of, partner, members_in, group_of, message_of, is_length, is_bounded}
 use Rattle.book.specs.Rules.{rule4, partnered, rule6, paired}
-use Rattle.book.specs.Check.{sound, check, first}
+use Rattle.book.specs.Check.{sound, check}
 use Rattle.message.specs.Permitted.{has_tag}
 use Rattle.reader.specs.Reading.{looked}
 use Rattle.bridge.specs.Neighbours.{ListOf, DataNext, LengthBefore}

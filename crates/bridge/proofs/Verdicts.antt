@@ -8,14 +8,13 @@ use native.Mathlib.Omega.{arith}
 use lib.Dec.{eqb, ltb}
 use lib.ListN.{length, drop, length-drop}
 use lib.Seq.{drop-drop}
-use borrow.Author.Tests.{eqb-true, eqb-false, ltb-true, ltb-false, not-true, not-false}
-use Rattle.numbers.proofs.Tests.{or_left, or_right}
+use borrow.Author.Tests.{eqb-true, eqb-false, ltb-true, ltb-false}
 use Rattle.book.specs.Records.{Record, record_at, records, stop, size, walk_from, walk}
 use Rattle.book.specs.Rules.{rule1}
-use Rattle.book.specs.Check.{Verdict, sound, broken, first, and_then, filled, rule_of, rules_from, check}
+use Rattle.book.specs.Check.{Verdict, sound, broken, first, and_then, filled, rule_of, rules_from}
 use Rattle.book.proofs.Walk.{size_fits, whole}
-use Rattle.bridge.specs.Unsound.{Every, Keeps, StandsIn, Unsound, over, torn, rule}
-use Rattle.bridge.proofs.Sound.{first_every, check_is}
+use Rattle.bridge.specs.Unsound.{Every, Keeps, StandsIn, Unsound, over, torn}
+use Rattle.bridge.proofs.Sound.{first_every}
 
 not_broken : {A : Type 0} (n at : ℕ) → sound ≡ broken n at → A
 not_broken n at e = let z : ◌≡◌ {A = ℕ} 0 1 = cc in absurd (omega arith)

@@ -1,12 +1,12 @@
 -- Where a reading may break off, and what it may miss there, said of the bytes. Assumes nothing.
 use Rattle.std.specs.Prelude.{◌≡◌, Bool, true, false, cond, ◌&&◌, List, [], ◌∷◌, ◌++◌, ◌⊎◌, ℕ, ◌+◌, ◌*◌, ◌≤◌, ◌<◌, eqb, length}
 use Rattle.numbers.specs.Bytes.{mem}
-use Rattle.book.specs.Records.{Record, Member, LookUp, found, group_of, message_of, is_count, is_length, is_bounded, required}
+use Rattle.book.specs.Records.{Record, Member, found, group_of, message_of, is_count, is_length, is_bounded, required}
 use Rattle.message.specs.Arrangement.{Piece, Item, tag_of, Items, Arrangement, Page}
 use Rattle.message.specs.Written.{put_field, put, put_all, put_item, header, type_field, trailer}
 use Rattle.message.specs.Permitted.{versions, among, good_value, good, Miss, none, lacks, note, lacking}
 use Rattle.message.specs.Rows.{width, field_size, rows_of}
-use Rattle.reader.specs.Reading.{Answer, gives, arrangement_of, looked}
+use Rattle.reader.specs.Reading.{gives, arrangement_of, looked}
 
 unfoldable pub good_pieces : List Record → List Piece → Bool
 good_pieces B [] = true

@@ -1,6 +1,6 @@
 -- What the check's answer may be for a book that is not sound. Assumes nothing.
-use Rattle.std.specs.Prelude.{◌≡◌, Bool, true, false, List, [], ◌∷◌, ◌++◌, ℕ, ◌+◌, ◌≤◌, ◌<◌, length, drop}
-use Rattle.book.specs.Records.{Record, record_at, records, stop, size}
+use Rattle.std.specs.Prelude.{◌≡◌, true, false, List, [], ◌∷◌, ◌++◌, ℕ, ◌+◌, ◌≤◌, ◌<◌, length, drop}
+use Rattle.book.specs.Records.{Record, record_at, records, stop}
 use Rattle.book.specs.Check.{rule_of}
 
 -- each record of a list passes

@@ -1,5 +1,5 @@
 -- Arrangements of fields and group instances. Assumes nothing.
-use Rattle.std.specs.Prelude.{ℕ, zero, suc, List, [], ◌∷◌}
+use Rattle.std.specs.Prelude.{ℕ, zero, suc, List}
 use Rattle.book.specs.Records.{Record, Member}
 
 -- a field: tag and value's text; or a Length with its data: tag and text, tag and bytes

@@ -1,13 +1,12 @@
--- Near misses: arrangements that a book permits, and such as miss being permitted by one thing alone. By computation, so that each clause of
--- `permitted`, and not only the shape of a proof, is what guards it: an edit of a clause is refused here. Assumes nothing.
-use Rattle.std.specs.Prelude.{◌≡◌, refl, Bool, true, false, List, [], ◌∷◌, ◌++◌, map, ℕ, ◌+◌, ◌/◌, ◌%◌, length, replicate}
+-- Near misses: arrangements that a book permits, and such as miss being permitted by one thing alone. Which is which is proved in
+-- proofs/NearMisses. Assumes nothing.
+use Rattle.std.specs.Prelude.{List, [], ◌∷◌, ℕ, ◌+◌, ◌/◌, ◌%◌, length}
 use Prim.Native.String.{String}
-use Rattle.numbers.specs.Bytes.{bytes, total, free, mem}
-use Rattle.numbers.specs.Decimal.{digits, value_from, render}
+use Rattle.numbers.specs.Bytes.{bytes, total}
+use Rattle.numbers.specs.Decimal.{render}
 use Rattle.book.specs.Records.{Member, Record}
 use Rattle.message.specs.Arrangement.{single, pair, Node, leaf, count, Item, Items, Arrangement}
 use Rattle.message.specs.Written.{body, header, type_field}
-use Rattle.message.specs.Permitted.{permitted}
 
 -- records; members as tag and flag
 abbrev pub member : ℕ → ℕ → Member
@@ -169,8 +168,3 @@ odd_misses =
     -- an instance of no group
     ∷ x (count 454 (bytes "1") ([] ∷ []) ∷ [])
     ∷ []
-
-pub near_misses_lem : (map (permitted book) unspoiled ≡ replicate 7 true) × (map (permitted book) near_misses ≡ replicate 38 false)
-    × (map (permitted odd) (x (f 11 "A" ∷ []) ∷ unspoiled) ≡ replicate 8 true) × (map (permitted odd) odd_misses ≡ replicate 7 false)
-unfolding unspoiled near_misses odd_misses book odd permitted body digits value_from total free mem bytes under
-near_misses_lem = (refl, refl, refl, refl)

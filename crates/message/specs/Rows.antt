@@ -1,7 +1,7 @@
 -- The rows that an arrangement states, in message order. No word of a reader. Assumes nothing.
 use Rattle.std.specs.Prelude.{ℕ, zero, suc, ◌+◌, List, [], ◌∷◌, ◌++◌, length}
 use Rattle.numbers.specs.Decimal.{render}
-use Rattle.message.specs.Arrangement.{Piece, single, pair, Node, leaf, count, Item, Items, Arrangement}
+use Rattle.message.specs.Arrangement.{Piece, single, pair, Node, leaf, count, Item, Arrangement}
 
 -- tag, value start, value length, depth, the row of the group's count, instance
 pub record Row : Type 0 where

@@ -1,7 +1,6 @@
 -- What an arrangement is written out. Everything is put in front of the bytes r that follow. Assumes nothing.
 use Rattle.std.specs.Prelude.{ℕ, zero, suc, List, [], ◌∷◌, ◌++◌}
-use Rattle.numbers.specs.Bytes.{bytes}
-use Rattle.numbers.specs.Decimal.{render, render_onto}
+use Rattle.numbers.specs.Decimal.{render}
 use Rattle.message.specs.Arrangement.{Piece, single, pair, Node, leaf, count, Item, Items, Arrangement}
 
 -- tag, `=`, value, `|`

@@ -1,10 +1,9 @@
--- P1 to P14 of document 01: one table, and one claim over it, by computation. Assumes nothing.
-use Rattle.std.specs.Prelude.{◌≡◌, refl, ℕ, ◌+◌, ◌*◌, List, [], ◌∷◌, ◌++◌, map, length}
+-- P1 to P14 of document 01: one table. The one claim over it is proved in proofs/Examples. Assumes nothing.
+use Rattle.std.specs.Prelude.{ℕ, ◌+◌, ◌*◌, List, [], ◌∷◌, ◌++◌, length}
 use Prim.Native.String.{String}
-use Rattle.numbers.specs.Bytes.{bytes, little_endian}
-use Rattle.book.specs.Check.{Verdict, sound, check}
+use Rattle.numbers.specs.Bytes.{little_endian}
 use Rattle.message.specs.Rows.{Row}
-use Rattle.reader.specs.Reading.{Answer, gives, refused, read}
+use Rattle.reader.specs.Reading.{Answer, gives, refused}
 
 -- records of the book; members as tag, flag, tag, flag and on
 unfoldable pub field_record : ℕ → ℕ → ℕ → List ℕ
@@ -82,8 +81,3 @@ table =
     -- P14
     ∷ example "8=FIX.4.4|9=5|35=0|10=163|" 23 (refused 15 26 0)
     ∷ []
-
--- the book is sound and of 120 bytes, and each message is answered as the table says
-pub p1_to_p14 : (length book ≡ 120) × (check book ≡ sound) × (map (λ e. read book (bytes e.message) e.room) table ≡ map (λ e. e.answer) table)
-unfolding book table bytes check read
-p1_to_p14 = (refl, refl, refl)
