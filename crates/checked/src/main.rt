@@ -15,124 +15,141 @@
 
 mod pen;
 
+ghost use Rattle.std.specs.Prelude.{◌≤◌, length, IfOk};
+
 use book::Verdict;
 use pen::{Pen, REMARK, VALUE, WORDS};
+use std::io;
+use std::io::Read;
 
-fn say(text: &[u8]) {
-    io::write_all(1, text);
+fn say(rt: &impl Print, text: &[u8]) -> io::Result<()> {
+    rt.write_all(text)
 }
 
-fn say_verdict(verdict: Verdict) {
+fn say_verdict(rt: &impl Print, verdict: Verdict) -> io::Result<()> {
     let Verdict::Broken(rule, offset) = verdict else {
-        say(b" SOUND\n");
-        return;
+        return say(rt, b" SOUND\n");
     };
-    say(b" UNSOUND ");
-    io::print_decimal(1, rule as u64);
-    say(b" ");
-    io::print_decimal(1, offset as u64);
-    say(b"\n");
+    say(rt, b" UNSOUND ")?;
+    rt.print(rule)?;
+    say(rt, b" ")?;
+    rt.print(offset)?;
+    say(rt, b"\n")
 }
 
-fn say_whether(yes: bool) {
+fn say_whether(rt: &impl Print, yes: bool) -> io::Result<()> {
     if yes {
-        say(b" yes\n");
-        return;
+        return say(rt, b" yes\n");
     }
-    say(b" no\n");
+    say(rt, b" no\n")
 }
 
 // The answer to what was written: of a book, or of a value of a datatype.
-fn answer(datatype: u16, bytes: &[u8]) {
+fn answer(rt: &impl Print, datatype: u16, bytes: &[u8]) -> io::Result<()> {
     if datatype == 0 {
-        say_verdict(book::check(bytes));
-        return;
+        return say_verdict(rt, book::check(bytes));
     }
-    say_whether(forms::of_type(datatype, bytes));
+    say_whether(rt, forms::of_type(datatype, bytes))
 }
 
-fn echo(b: u8) {
+fn echo(rt: &impl Print, b: u8) -> io::Result<()> {
     let byte = [b];
-    say(&byte);
+    say(rt, &byte)
 }
 
-fn in_label(b: u8, pen: Pen) -> Pen {
+fn in_label(rt: &impl Print, b: u8, pen: Pen) -> io::Result<Pen> {
     if b == b'#' {
-        return pen.to(REMARK);
+        return Ok(pen.to(REMARK));
     }
     if b == b':' {
-        return pen.to(WORDS);
+        return Ok(pen.to(WORDS));
     }
     if b == b'\n' {
-        return pen::fresh();
+        return Ok(pen::fresh());
     }
-    echo(b);
+    echo(rt, b)?;
     if b == b'"' {
-        return pen.to(VALUE);
+        return Ok(pen.to(VALUE));
     }
-    pen.label(b)
+    Ok(pen.label(b))
 }
 
 // The line ends behind the value's closing quote.
-fn in_value(b: u8, pen: Pen, out: &mut [u8]) -> Pen {
+fn in_value(rt: &impl Print, b: u8, pen: Pen, out: &mut [u8]) -> io::Result<Pen> {
     if b == b'\n' {
         let n = pen.at;
         if 0 < n {
-            answer(pen.datatype, numbers::part(out, 0, n - 1));
+            answer(rt, pen.datatype, numbers::part(out, 0, n - 1))?;
         }
-        return pen::fresh();
+        return Ok(pen::fresh());
     }
-    echo(b);
+    echo(rt, b)?;
     if b == b'|' {
-        return pen.byte(1, out);
+        return Ok(pen.byte(1, out));
     }
-    pen.byte(b, out)
+    Ok(pen.byte(b, out))
 }
 
-fn in_words(b: u8, pen: Pen, out: &mut [u8]) -> Pen {
+fn in_words(rt: &impl Print, b: u8, pen: Pen, out: &mut [u8]) -> io::Result<Pen> {
     if b == b'\n' {
         let last = pen.ended(out);
-        answer(last.datatype, numbers::part(out, 0, last.at));
-        return pen::fresh();
+        answer(rt, last.datatype, numbers::part(out, 0, last.at))?;
+        return Ok(pen::fresh());
     }
     if b == b' ' {
-        return pen.ended(out);
+        return Ok(pen.ended(out));
     }
-    pen.word_byte(b, out)
+    Ok(pen.word_byte(b, out))
 }
 
-fn step(b: u8, pen: Pen, out: &mut [u8]) -> Pen {
+fn step(rt: &impl Print, b: u8, pen: Pen, out: &mut [u8]) -> io::Result<Pen> {
     if pen.place == REMARK {
         if b == b'\n' {
-            return pen::fresh();
+            return Ok(pen::fresh());
         }
-        return pen;
+        return Ok(pen);
     }
     if pen.place == VALUE {
-        return in_value(b, pen, out);
+        return in_value(rt, b, pen, out);
     }
     if pen.place == WORDS {
-        return in_words(b, pen, out);
+        return in_words(rt, b, pen, out);
     }
-    in_label(b, pen)
+    in_label(rt, b, pen)
 }
 
-fn steps(input: &[u8], out: &mut [u8]) {
+fn steps(rt: &impl Print, input: &[u8], out: &mut [u8]) -> io::Result<()> {
     let mut pen = pen::fresh();
     let mut i = 0;
     while i < input.len() {
-        pen = step(input[i], pen, out);
+        pen = step(rt, input[i], pen, out)?;
         i += 1;
     }
+    Ok(())
 }
 
-fn run(input: &[u8]) {
+fn run(rt: &impl Print, input: &[u8]) -> io::Result<()> {
     let mut out = [0u8; 16400];
-    steps(input, &mut out);
+    steps(rt, input, &mut out)
 }
 
-fn main() {
+// Reads until the buffer is full or the input ends; how many bytes stand at its start.
+fn read_full<R: Read>(from: &mut R, buf: &mut [u8]) -> io::Result<usize>
+    ensures { IfOk result (λ n. n ≤ length buf.new) }
+{
+    let mut done = 0;
+    while done < buf.len() {
+        let n = from.read(&mut buf[done..])?;
+        if n == 0 {
+            break;
+        }
+        done += n;
+    }
+    Ok(done)
+}
+
+fn main(rt: HostRuntime) -> io::Result<()> {
     let mut input = [0u8; 131072];
-    let n = io::read_full(0, &mut input);
-    run(&input[..n]);
+    let n = read_full(&mut rt.stdin(), &mut input)?;
+    run(&rt, &input[..n])
 }
