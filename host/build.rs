@@ -1,5 +1,5 @@
 //! With the feature `exports`, links the tests against the static library of the C exports:
-//! the file named by INKROWAN_LIB, else target/staticlib/libgateway.a at the repository's top.
+//! the file named by INKROWAN_LIB, else crates/gateway/out/libgateway.a.
 
 use std::env;
 use std::path::PathBuf;
@@ -13,12 +13,12 @@ fn main() {
     let archive = match env::var_os("INKROWAN_LIB") {
         Some(path) => PathBuf::from(path),
         None => PathBuf::from(env::var_os("CARGO_MANIFEST_DIR").unwrap())
-            .join("../target/staticlib/libgateway.a"),
+            .join("../crates/gateway/out/libgateway.a"),
     };
     println!("cargo:rerun-if-changed={}", archive.display());
     assert!(
         archive.is_file(),
-        "no archive at {}: make it with `rt staticlib gateway`, or name one in INKROWAN_LIB",
+        "no archive at {}: make it with `rt lib` in crates/gateway, or name one in INKROWAN_LIB",
         archive.display()
     );
     let archive = archive.canonicalize().unwrap();

@@ -26,7 +26,7 @@ use Rattle.bridge.proofs.Places.{value_place, first, second, inner, rows_are, ro
 use Rattle.asking.specs.Groups.{Group, count_item, groups_all, groups_item, groups_of}
 use Rattle.asking.specs.Once.{item_tags, tags_all, Once}
 use Rattle.asking.proofs.FirstRow.{first_row, of_group, of_key, row_count_lem, start_at, length_at, find_row, instance_row_lem}
-use Rattle.asking.proofs.Segments.{Numbered, Groups, groups_map, start_of, Found_at, Walks, Stretch, joined}
+use Rattle.asking.proofs.Segments.{Numbered, Groups, groups_map, start_of, FoundAt, Walks, Stretch, joined}
 use Rattle.asking.proofs.Stretches.{At, one_row, level, all_stretch}
 use Rattle.asking.proofs.Alone.{Single, permitted_single}
 
@@ -117,9 +117,9 @@ at_number p k (x ∷ a) r b h =
 zero_plus : (n : ℕ) → 0 + n ≡ n
 zero_plus n = omega arith
 
-found_own : (q a : List Row) (r : Row) (b : List Row) → q ≡ a ++ (r ∷ b) → Numbered (Found_at 0 q) 0 q → first_row (of_key r.count_row r.instance r.tag) 0 q ≡ row (length a)
+found_own : (q a : List Row) (r : Row) (b : List Row) → q ≡ a ++ (r ∷ b) → Numbered (FoundAt 0 q) 0 q → first_row (of_key r.count_row r.instance r.tag) 0 q ≡ row (length a)
 found_own q a r b e h =
-    rw e (at_number (Found_at 0 (a ++ (r ∷ b))) 0 a r b (rw e at h) ∙ ap row (zero_plus (length a)))
+    rw e (at_number (FoundAt 0 (a ++ (r ∷ b))) 0 a r b (rw e at h) ∙ ap row (zero_plus (length a)))
 
 -- Find with a row's own count row, instance and tag gives that row.
 pub find_own : (book : List ℕ) → check book ≡ sound → (A : Arrangement) → permitted (looked book) A ≡ true

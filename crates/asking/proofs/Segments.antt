@@ -105,8 +105,8 @@ start_of (k ∷ l) (suc j) = start_of l j
 abbrev pub In : ℕ → ℕ → ℕ → (ℕ → ℕ → Type 0) → Row → Type 0
 In c lo hi J r = ((r.count_row ≡ c) × J r.instance r.tag) ⊎ ((lo ≤ r.count_row) × (r.count_row < hi))
 
-abbrev pub Found_at : ℕ → List Row → ℕ → Row → Type 0
-Found_at k s m r = first_row (of_key r.count_row r.instance r.tag) k s ≡ row m
+abbrev pub FoundAt : ℕ → List Row → ℕ → Row → Type 0
+FoundAt k s m r = first_row (of_key r.count_row r.instance r.tag) k s ≡ row m
 
 pub record Walks (lo k : ℕ) (s : List Row) (g : Group) : Type 0 where
   pub low : lo ≤ g.row
@@ -119,7 +119,7 @@ pub record Walks (lo k : ℕ) (s : List Row) (g : Group) : Type 0 where
 pub record Stretch (c lo k : ℕ) (J : ℕ → ℕ → Type 0) (s : List Row) (l : List Group) : Type 0 where
   pub rows : Rows (In c lo (k + length s) J) s
   pub groups : Groups (Walks lo k s) l
-  pub finds : Numbered (Found_at k s) k s
+  pub finds : Numbered (FoundAt k s) k s
 
 other_group : (c j : ℕ) (r : Row) → (r.count_row ≡ c → ⊥) → of_group c j r ≡ false
 other_group c j r n = rw (ne_eqb r.count_row c n)
@@ -172,12 +172,12 @@ module _ (c lo k m : ℕ) (J K L : ℕ → ℕ → Type 0) (s q : List Row) (a b
         fit = omega (arith, h.fit, len);
       }
 
-  joined_finds : Numbered (Found_at k (s ++ q)) k (s ++ q)
+  joined_finds : Numbered (FoundAt k (s ++ q)) k (s ++ q)
   joined_finds =
-      numbered_join (Found_at k (s ++ q)) k m s q em
-      (numbered_map (Found_at k s) (Found_at k (s ++ q)) (λ n r h. first_kept (of_key r.count_row r.instance r.tag) k n s q h) k s x.finds)
-      (numbered_map (λ n r. In c m (m + length q) K r × Found_at m q n r) (Found_at k (s ++ q)) (λ n r h. behind r n h.0 h.1) m q
-      (numbered_both (In c m (m + length q) K) (Found_at m q) m q y.rows y.finds))
+      numbered_join (FoundAt k (s ++ q)) k m s q em
+      (numbered_map (FoundAt k s) (FoundAt k (s ++ q)) (λ n r h. first_kept (of_key r.count_row r.instance r.tag) k n s q h) k s x.finds)
+      (numbered_map (λ n r. In c m (m + length q) K r × FoundAt m q n r) (FoundAt k (s ++ q)) (λ n r h. behind r n h.0 h.1) m q
+      (numbered_both (In c m (m + length q) K) (FoundAt m q) m q y.rows y.finds))
     where
       unlike : (r z : Row) → In c m (m + length q) K r → In c lo (k + length s) J z → z.count_row ≡ r.count_row → z.instance ≡ r.instance → z.tag ≡ r.tag → ⊥
       unlike r z (inl h) (inl w) e i t = apart z.instance z.tag w.1 (rw (i, t) h.1)
@@ -185,7 +185,7 @@ module _ (c lo k m : ℕ) (J K L : ℕ → ℕ → Type 0) (s q : List Row) (a b
       unlike r z (inr h) (inl w) e i t = omega (arith, h.0, w.0, e, low, mid)
       unlike r z (inr h) (inr w) e i t = omega (arith, h.0, w.1, e, em)
 
-      behind : (r : Row) (n : ℕ) → In c m (m + length q) K r → Found_at m q n r → Found_at k (s ++ q) n r
+      behind : (r : Row) (n : ℕ) → In c m (m + length q) K r → FoundAt m q n r → FoundAt k (s ++ q) n r
       behind r n h w =
           first_behind (of_key r.count_row r.instance r.tag) k m s q em
           (rows_map (In c lo (k + length s) J) (λ z. of_key r.count_row r.instance r.tag z ≡ false) (λ z v. other_key r.count_row r.instance r.tag z (unlike r z h v)) s x.rows)

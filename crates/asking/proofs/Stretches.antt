@@ -19,7 +19,7 @@ use Rattle.bridge.proofs.Lists.{distinct, disjoint, mem_join, mem_behind, distin
 use Rattle.asking.specs.Groups.{Group, count_all, starts_from, groups_all, count_node, count_item, groups_node, groups_item}
 use Rattle.asking.specs.Once.{node_tags, item_tags, tags_all, Each, OnceIn, OnceNode, Once}
 use Rattle.asking.proofs.FirstRow.{first_row, of_group, of_key}
-use Rattle.asking.proofs.Segments.{Rows, Numbered, Groups, rows_map, numbered_map, numbered_both, groups_map, first_here, first_next, first_none, first_behind, start_of, In, Found_at, Walks, Stretch, joined}
+use Rattle.asking.proofs.Segments.{Rows, Numbered, Groups, rows_map, numbered_map, numbered_both, groups_map, first_here, first_next, first_none, first_behind, start_of, In, FoundAt, Walks, Stretch, joined}
 
 -- a row is found by its own key
 own_key : (r : Row) → of_key r.count_row r.instance r.tag r ≡ true
@@ -233,15 +233,15 @@ module _ {I : Type 0} (past : ℕ → I → ℕ) (rows : ℕ → ℕ → ℕ →
     count_stretch : Stretch c k k (At j (t ∷ [])) (row_of e c j at t v ∷ s) (record { row = k; number = n; starts = ks } ∷ l)
     count_stretch = record { rows = count_rows; groups = count_groups; finds = (first_here (of_key c j t) k (row_of e c j at t v) s (own_key (row_of e c j at t v)), behind) }
       where
-        under : (m : ℕ) (r : Row) → In k (suc k) (suc k + length s) (λ a t. 1 ≤ a) r → Found_at (suc k) s m r → Found_at k (row_of e c j at t v ∷ s) m r
+        under : (m : ℕ) (r : Row) → In k (suc k) (suc k + length s) (λ a t. 1 ≤ a) r → FoundAt (suc k) s m r → FoundAt k (row_of e c j at t v ∷ s) m r
         under m r p w =
             let h : k ≤ r.count_row = ⊎_elim (λ p. omega (arith, p.0)) (λ p. omega (arith, p.0)) p in
             first_next (of_key r.count_row r.instance r.tag) k (row_of e c j at t v) s (rw (top_other r.count_row r.instance h)) ∙ w
 
-        behind : Numbered (Found_at k (row_of e c j at t v ∷ s)) (suc k) s
+        behind : Numbered (FoundAt k (row_of e c j at t v ∷ s)) (suc k) s
         behind =
-            numbered_map (λ m r. In k (suc k) (suc k + length s) (λ a t. 1 ≤ a) r × Found_at (suc k) s m r) (Found_at k (row_of e c j at t v ∷ s)) (λ m r h. under m r h.0 h.1) (suc k) s
-            (numbered_both (In k (suc k) (suc k + length s) (λ a t. 1 ≤ a)) (Found_at (suc k) s) (suc k) s x.rows x.finds)
+            numbered_map (λ m r. In k (suc k) (suc k + length s) (λ a t. 1 ≤ a) r × FoundAt (suc k) s m r) (FoundAt k (row_of e c j at t v ∷ s)) (λ m r h. under m r h.0 h.1) (suc k) s
+            (numbered_both (In k (suc k) (suc k + length s) (λ a t. 1 ≤ a)) (FoundAt (suc k) s) (suc k) s x.rows x.finds)
 
   node_size : (e c j at k : ℕ) (n : Node I) → length (rows_node past rows e c j at k n) ≡ count_node fields n
   unfolding rows_node count_node

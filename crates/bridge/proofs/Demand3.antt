@@ -133,7 +133,7 @@ read_exactly book s room q = ((λ e. go (is_sound (check book)) refl e), (λ h. 
     go false w e = no_answer _ _ _ _ (sym (read_unsound book s room w) ∙ e)
 
 -- The rows are, in message order, the fields of the arrangement: each stated place is where that field's text stands in the bytes. Of any
--- arrangement. (That the bytes are these fields one after another, each tag, `=`, text, `|`, is `written-flat` in Places.)
+-- arrangement. (That the bytes are these fields one after another, each tag, `=`, text, `|`, is `written_flat` in Places.)
 pub places : (A : Arrangement) → map (field_at (written A)) (rows_of A) ≡ fields_of A
 places A = rows_say A (field_at (written A)) (λ f. f) says ∙ map-id (fields_of A)
   where

@@ -82,10 +82,10 @@ unfoldable pub rows_of : Arrangement → List Row
 unfolding lead past_all rows_all past_node past_item rows_insts rows_node rows_item
 rows_of A =
     let nine = field_size 8 A.version in
-    let thirtyFive = nine + field_size 9 A.body_length in
-    let at = thirtyFive + field_size 35 A.type in
+    let thirty_five = nine + field_size 9 A.body_length in
+    let at = thirty_five + field_size 35 A.type in
     row_of 0 0 0 0 8 A.version
     ∷ row_of 0 0 0 nine 9 A.body_length
-    ∷ row_of 0 0 0 thirtyFive 35 A.type
+    ∷ row_of 0 0 0 thirty_five 35 A.type
     ∷ (rows_all (past_item 5) (rows_item 5 0 0 0) at 3 A.items
     ++ (row_of 0 0 0 (past_all (past_item 5) at A.items) 10 A.check_sum ∷ []))
