@@ -1,12 +1,13 @@
 -- Facts about every byte, by one computed test each. Assumes nothing.
 use mathlib.Core.Path.{◌≡◌, refl, sym, subst}
 use mathlib.Core.Bool.{Bool, true, false, true≢false}
-use Prim.Native.Nat.{ℕ, zero, suc, ◌+◌, ◌<◌, ◌%◌, ◌^◌, ◌*◌}
+use Prim.Native.Nat.{ℕ, zero, suc, ◌<◌, ◌%◌, ◌^◌, ◌*◌}
 use native.Mathlib.Omega.{arith}
 use native.Mathlib.Nat.{eq-or-lt_of_le, le_of_suc-le-suc}
 use mathlib.Core.Logic.{⊎_elim}
 use lib.Dec.{T, eqb, eqb→eq, ltb, ltb→lt}
 use borrow.Author.Tests.{ne_eqb}
+use Rattle.std.proofs.Common.{bit_or}
 use Rattle.numbers.specs.Bits.{bit_of, with_bit}
 
 abbrev both : Bool → Bool → Bool
@@ -69,13 +70,7 @@ bit_kept x k j hx hk hj ne =
     agree_is (bit_of (with_bit x k) j) (bit_of x j) (all 256 (λ x. agree (bit_of (with_bit x k) j) (bit_of x j)) (either_right (eqb j k) (below 256 (λ x. agree (bit_of (with_bit x k) j) (bit_of x j))) (ne_eqb j k ne)
     (all 8 (λ j. either (eqb j k) (below 256 (λ x. agree (bit_of (with_bit x k) j) (bit_of x j)))) (all 8 (λ k. below 8 (λ j. either (eqb j k) (below 256 (λ x. agree (bit_of (with_bit x k) j) (bit_of x j))))) tt k hk) j hj)) x hx)
 
-pub set_clear : (x k : ℕ) → bit_of x k ≡ false → x + 2 ^ k ≡ with_bit x k
-unfolding with_bit
-set_clear x k f = rw f
-
-pub set_kept : (x k : ℕ) → bit_of x k ≡ true → x ≡ with_bit x k
-unfolding with_bit
-set_kept x k f = rw f
-
-pub power : (k : ℕ) → k < 8 → (1 * 2 ^ k) % 256 ≡ 2 ^ k
-power k h = eqb→eq ((1 * 2 ^ k) % 256) (2 ^ k) (all 8 (λ k. eqb ((1 * 2 ^ k) % 256) (2 ^ k)) tt k h)
+-- `x | 1 << k` of a byte
+pub bit_or_is : (x k : ℕ) → x < 256 → k < 8 → bit_or x ((1 * 2 ^ k) % 256) ≡ with_bit x k
+unfolding bit_of with_bit
+bit_or_is x k hx hk = eqb→eq (bit_or x ((1 * 2 ^ k) % 256)) (with_bit x k) (all 256 (λ x. eqb (bit_or x ((1 * 2 ^ k) % 256)) (with_bit x k)) (all 8 (λ k. below 256 (λ x. eqb (bit_or x ((1 * 2 ^ k) % 256)) (with_bit x k))) tt k hk) x hx)

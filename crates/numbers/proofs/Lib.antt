@@ -2,6 +2,7 @@ pub mod Tests
 pub mod Parts
 pub mod Every
 pub mod Marks
-pub mod Scanning
 pub mod Shortest
 pub mod Decimals
+pub mod Same
+pub mod Finding

@@ -1,17 +1,17 @@
 -- The bits as a set. Assumes nothing.
 use mathlib.Core.Path.{◌≡◌, refl, sym, ap, ◌∙◌}
 use mathlib.Core.Bool.{Bool, true, false, ◌||◌}
-use mathlib.Core.List.{List, ◌++◌, append-nil}
-use Prim.Native.Nat.{ℕ, zero, suc, ◌+◌, ◌<◌, ◌≤◌, ◌/◌, ◌%◌, ◌^◌, ◌*◌, zero-le}
+use mathlib.Core.List.{List}
+use Prim.Native.Nat.{ℕ, zero, suc, ◌<◌, ◌≤◌, ◌/◌, ◌%◌, ◌^◌, ◌*◌}
 use native.Mathlib.Omega.{arith}
 use native.Mathlib.Nat.{zero-div}
 use lib.Dec.{eqb}
-use lib.ListN.{length, get_or, set, drop, replicate, length-set, length-replicate}
-use lib.Seq.{get_or-set_same, get_or-set_other, set_out, drop-length}
-use borrow.Author.Fill.{fill_none, fill_more}
+use lib.ListN.{length, get_or, set, replicate, length-set, length-replicate}
+use lib.Seq.{get_or-set_same, get_or-set_other, set_out}
 use borrow.Author.Tests.{eqb-true, eqb-false}
+use Rattle.std.proofs.Common.{bit_or}
 use Rattle.numbers.specs.Bits.{bit_of, with_bit, bit_at, marked}
-use Rattle.numbers.proofs.Every.{bit_fits, bit_set, bit_kept}
+use Rattle.numbers.proofs.Every.{bit_fits, bit_set, bit_kept, bit_or_is}
 
 -- the map has room for the numbers below n, and holds just those of which `has` says so
 pub record Marks (map : List ℕ) (n : ℕ) (has : ℕ → Bool) : Type 0 where
@@ -86,22 +86,7 @@ pub marked_out : (map : List ℕ) (t : ℕ) → length map ≤ t / 8 → map ≡
 unfolding marked
 marked_out map t h = sym (set_out map (t / 8) (with_bit (get_or map (t / 8) 0) (t % 8)) h)
 
--- the loop that clears: d as it came, o as it is, i cleared
-pub record Cleared (d o : List ℕ) (i : ℕ) : Type 0 where
-  pub is : o ≡ replicate i 0 ++ drop i d
-  pub inside : i ≤ length d
-  pub kept : length o ≡ length d
-
-pub clear_start : (d : List ℕ) → Cleared d d 0
-clear_start d = record { is = fill_none d 0; inside = zero-le; kept = refl }
-
-module _ (d o : List ℕ) (i : ℕ) (inv : Cleared d o i) where
-  pub clear_turn : i < length o → Cleared d (set o i 0) (i + 1)
-  clear_turn h =
-      let l : i < length d = omega (arith, h, inv.kept) in
-      record { is = ap (λ (l : List ℕ). set l i 0) inv.is ∙ fill_more i 0 d l; inside = omega (arith, l); kept = length-set o i 0 ∙ inv.kept }
-
-  pub clear_end : length o ≤ i → o ≡ replicate (length d) 0
-  clear_end h =
-      let e : i ≡ length d = omega (arith, h, inv.inside, inv.kept) in
-      inv.is ∙ rw (e, drop-length d) (append-nil (replicate (length d) 0))
+-- `x | 1 << k` put in the place of x
+pub marked_at : (map : List ℕ) (n x : ℕ) → x ≡ get_or map (n / 8) 0 → x < 256 → set map (n / 8) (bit_or x ((1 * 2 ^ (n % 8)) % 256)) ≡ marked map n
+unfolding marked
+marked_at map n x e h = rw (bit_or_is x (n % 8) h (omega arith), e)

@@ -1,16 +1,12 @@
-use mathlib.Core.Path.{refl}
-use Rattle.numbers.proofs.Decimals.{find_end, find_hit, find_turn}
-use borrow.Author.Rules.{rules}
+use Rattle.std.proofs.Common.{rules, tests, ◌≡◌, ap, ◌+◌, eqb, drop}
+use Rattle.std.specs.List.{position}
+use Rattle.std.proofs.lemmas.Iterator.{YieldsList-from_slice}
+use Rattle.std.proofs.lemmas.Iterator.Search.{position_from_yields_List}
+use Rattle.numbers.proofs.Finding.{found_is}
 use Rattle.numbers.proofs.decimal.find_byte.Goals as goal
 
-pub loop-i-init : goal.loop-i-init
-loop-i-init c = refl
-
-pub returns-then-s-i : goal.returns-then-s-i
-returns-then-s-i c = find_hit _ _ _ _ c.loop-i.invariant (search rules) c.if-s-i.true
-
-pub loop-i-preserved : goal.loop-i-preserved
-loop-i-preserved c = find_turn _ _ _ _ c.loop-i.invariant (search rules) c.if-s-i.false
-
 pub returns : goal.returns
-returns c = find_end _ _ _ _ c.loop-i.invariant c.loop-i-test.false
+returns c =
+    let s = drop c.args.from c.args.s.now in
+    let e : c.position.result ≡ position (λ x. eqb x c.args.b) s = position_from_yields_List _ _ _ _ c.position.ensures.ran (YieldsList-from_slice s cc) (λ x b q k. search (rules, tests)) in
+    ap (λ n. c.args.from + n) (rw (c.unwrap_or.ensures, e, c.rest-rest.ensures) (found_is c.args.b s))

@@ -1,16 +1,17 @@
-use Rattle.numbers.proofs.Scanning.{number_start, number_end, number_stop, number_turn}
-use mathlib.Core.Path.{sym, ◌∙◌}
-use borrow.Author.Rules.{rules}
+use Rattle.std.proofs.Common.{rules, tests, ◌≡◌, ◌∙◌, drop, length, take}
+use Rattle.std.specs.List.{prefix_len}
+use Rattle.std.proofs.lemmas.Iterator.{YieldsList-from_slice}
+use Rattle.std.proofs.lemmas.Iterator.Consumers.{count_from_yields_List}
+use Rattle.std.proofs.lemmas.Iterator.Search.{YieldsList-from_take_while}
+use Rattle.std.proofs.lemmas.List.Folds.{length-prefix_len}
+use Rattle.numbers.specs.Decimal.{digit}
+use Rattle.numbers.proofs.Finding.{leading_is}
 use Rattle.numbers.proofs.scan.number_at.Goals as goal
 
-pub loop-i-init : goal.loop-i-init
-loop-i-init c = number_start _ _ _
-
-pub returns-then-not-is_digit : goal.returns-then-not-is_digit
-returns-then-not-is_digit c = number_stop _ _ _ _ _ c.loop-i.invariant (search rules) (sym c.is_digit.ensures ∙ c.if-not-is_digit.true)
-
-pub loop-i-preserved : goal.loop-i-preserved
-loop-i-preserved c = number_turn _ _ _ _ _ c.loop-i.invariant (search rules) (sym c.is_digit.ensures ∙ c.if-not-is_digit.false) _ c.grown-v.ensures
-
 pub returns : goal.returns
-returns c = number_end _ _ _ _ _ c.loop-i.invariant c.loop-i-test.false
+returns c =
+    let s = drop c.args.from c.args.s.now in
+    let e : c.count-n.result ≡ length (take (prefix_len digit s) s) =
+    count_from_yields_List c.take_while.result _ c.count-n.ensures.ran (YieldsList-from_take_while _ (λ b. digit b) (YieldsList-from_slice s cc) c.take_while.ensures.closure c.take_while.ensures.done (λ x b q k. search (rules, tests))) in
+    let n : c.count-n.result ≡ prefix_len digit s = e ∙ length-prefix_len (λ b. digit b) s in
+    (rw (leading_is s, c.value_capped_at.ensures, n, c.rest-rest.ensures), rw (leading_is s, e))
