@@ -1,21 +1,21 @@
 -- Types 5 to 8 by what stands in front: digits, zeros. Assumes nothing.
 use mathlib.Core.Path.{◌≡◌, refl, sym, ap, ◌∙◌}
 use Prim.Native.Nat.{ℕ, suc, ◌+◌, ◌-◌, ◌*◌, ◌<◌, ◌≤◌}
-use native.Mathlib.Nat.{add-zero}
-use native.Mathlib.Numerals.{add-one}
 use native.Mathlib.Omega.{arith}
 use mathlib.Core.Bool.{Bool, true, false, ◌&&◌, and-false, cond}
 use mathlib.Core.List.{List, [], ◌∷◌}
 use lib.Dec.{leb, ltb, eqb, leb-suc-suc, eqb-suc-suc, eqb-zero-suc}
-use lib.ListN.{length, drop, get_or, length-drop, drop_of_length-le}
-use lib.Seq.{drop-cons, take_all, get_or-drop}
+use lib.ListN.{length, take, drop, get_or}
 use borrow.Author.Tests.{leb-true, leb-false, le-leb, lt-leb, lt-ltb, eqb-true, eqb-false, eq-eqb}
+use Rattle.std.specs.List.{prefix_len, take_while}
+use Rattle.std.proofs.lemmas.List.Folds.{length-prefix_len}
 use Rattle.numbers.specs.Decimal.{digit, digits, value_from}
 use Rattle.numbers.proofs.Tests.{and_left, and_right, only_one, clash}
 use Rattle.forms.specs.Form.{seq, alt_r, alt, null, after, accepts}
 use Rattle.forms.specs.Types.{byte, digit as digit_form, len, positive, day_of_month}
-use Rattle.forms.specs.Words.{is_positive, is_day, is_two, part}
+use Rattle.forms.specs.Words.{is_positive, is_day, is_two}
 use Rattle.forms.specs.Walks.{leading}
+use Rattle.forms.proofs.Positions.{rest}
 use Rattle.forms.proofs.Numbers.{positive_is, day_is}
 use Rattle.forms.proofs.Texts.{more_is, some_is}
 
@@ -28,25 +28,18 @@ leading_le lo hi (b ∷ s) = go (leb lo b && leb b hi) (leading_le lo hi s)
     go true h = omega arith
     go false h = omega arith
 
--- the loop that counts
-abbrev pub Counted : ℕ → ℕ → List ℕ → ℕ → Type 0
-Counted lo hi s i = (i ≤ length s) × (leading lo hi s ≡ i + leading lo hi (drop i s))
+-- as an iterator has it
+in_front : (lo hi : ℕ) (s : List ℕ) → leading lo hi s ≡ prefix_len (λ b. leb lo b && leb b hi) s
+unfolding leading
+in_front lo hi [] = refl
+in_front lo hi (b ∷ s) = rw (in_front lo hi s) (go (leb lo b && leb b hi) (prefix_len (λ b. leb lo b && leb b hi) s))
+  where
+    go : (t : Bool) (n : ℕ) → cond t (suc n) 0 ≡ cond t (1 + n) 0
+    go true n = omega arith
+    go false n = refl
 
-pub count_start : (lo hi : ℕ) (s : List ℕ) → Counted lo hi s 0
-count_start lo hi s = (omega arith, omega arith)
-
-module _ (lo hi : ℕ) (s : List ℕ) (i : ℕ) (inv : Counted lo hi s i) where
-  pub count_stop : i < length s → (leb lo (get_or s i 0) && leb (get_or s i 0) hi) ≡ false → (i ≡ leading lo hi s) × (i ≤ length s)
-  unfolding leading
-  count_stop h e = (rw (inv.1, drop-cons s i 0, e, add-zero), inv.0)
-
-  pub count_next : i < length s → (leb lo (get_or s i 0) && leb (get_or s i 0) hi) ≡ true → Counted lo hi s (i + 1)
-  unfolding leading
-  count_next h e = (omega arith, inv.1 ∙ rw (add-one i, drop-cons s i 0, e) (omega arith))
-
-  pub count_end : length s ≤ i → (i ≡ leading lo hi s) × (i ≤ length s)
-  unfolding leading
-  count_end h = (rw (inv.1, drop_of_length-le s, add-zero), inv.0)
+pub leading_is : (lo hi : ℕ) (s : List ℕ) → leading lo hi s ≡ length (take_while (λ b. leb lo b && leb b hi) s)
+leading_is lo hi s = in_front lo hi s ∙ sym (length-prefix_len (λ b. leb lo b && leb b hi) s)
 
 -- all bytes are digits if as many lead
 digits_is : (s : List ℕ) → eqb (leading 48 57 s) (length s) ≡ digits s
@@ -61,9 +54,9 @@ digits_is (b ∷ s) = go (leb 48 b && leb b 57) (digits_is s)
 pub digits_at : (s : List ℕ) (k : ℕ) → k ≡ leading 48 57 s → eqb k (length s) ≡ digits s
 digits_at s k e = rw e (digits_is s)
 
-pub len_is : (s : List ℕ) → (ltb 0 (length s) && digits s) ≡ accepts len s
+pub len_is : (s : List ℕ) → accepts len s ≡ (ltb 0 (length s) && digits s)
 unfolding len digit_form null digits after
-len_is s = rw (some_is s) (sym (more_is digit_form digit digits refl (λ b s. refl) refl s (λ i. refl)))
+len_is s = rw (some_is s) (more_is digit_form digit digits refl (λ b s. refl) refl s (λ i. refl))
 
 -- a number only grows by what follows
 grows : (s : List ℕ) (a : ℕ) → a ≤ value_from a s
@@ -87,12 +80,12 @@ above (b ∷ s) d = rw (only_one 48 b) (go (eqb b 48) refl (above s (and_right (
         let g = grows s (0 * 10 + (b - 48)) in
         lt-ltb 0 (value_from (0 * 10 + (b - 48)) s) (omega (arith, eqb-false b 48 e)) ∙ sym (lt-ltb 0 (suc (length s)) (omega arith))
 
-pub positive_at : (s : List ℕ) (p : Bool) (k : ℕ) → p ≡ digits s → k ≡ leading 48 48 s → (p && ltb k (length s)) ≡ accepts positive s
+pub positive_at : (s : List ℕ) → accepts positive s ≡ (digits s && ltb (leading 48 48 s) (length s))
 unfolding is_positive
-positive_at s p k x y = rw (x, y, positive_is s) (go (digits s) refl)
+positive_at s = positive_is s ∙ go (digits s) refl
   where
-    go : (t : Bool) → digits s ≡ t → (t && ltb (leading 48 48 s) (length s)) ≡ (t && ltb 0 (value_from 0 s))
-    go true d = sym (above s d)
+    go : (t : Bool) → digits s ≡ t → (t && ltb 0 (value_from 0 s)) ≡ (t && ltb (leading 48 48 s) (length s))
+    go true d = above s d
     go false d = refl
 
 -- zeros in front count for nothing
@@ -154,6 +147,13 @@ day_two (a ∷ b ∷ []) n l = go (digits (a ∷ b ∷ [])) refl
     go false d = refl
 day_two (a ∷ b ∷ c ∷ t) n l = absurd (omega arith)
 
+-- two bytes
+two_of : (t : List ℕ) → length t ≡ 2 → get_or t 0 0 ∷ get_or t 1 0 ∷ [] ≡ t
+two_of [] l = absurd (omega arith)
+two_of (a ∷ []) l = absurd (omega arith)
+two_of (a ∷ b ∷ []) l = refl
+two_of (a ∷ b ∷ c ∷ t) l = absurd (omega arith)
+
 day_other : (t : List ℕ) → (get_or t 0 0 ≡ 48 → ⊥) → (length t ≡ 1 → ⊥) → (length t ≡ 2 → ⊥) → false ≡ is_day t
 unfolding is_day value_from digits
 day_other [] n p q = refl
@@ -171,20 +171,25 @@ day_other (a ∷ b ∷ c ∷ t) n p q = go (digits (a ∷ b ∷ c ∷ t)) refl
         rw (lt-leb (value_from v t) 31 (omega arith), and-false)
     go false d = refl
 
+-- as the code has it, what stands behind the zeros
 module _ (s : List ℕ) (z : ℕ) (e : z ≡ leading 48 48 s) where
-  first : get_or (drop z s) 0 0 ≡ 48 → ⊥
-  first = rw e (front s)
+  abbrev pub behind : List ℕ
+  behind = take (length s - z) (drop z s)
 
-  stripped : is_day (drop z s) ≡ accepts day_of_month s
-  stripped = rw e (sym (day_strip s ∙ day_is (drop (leading 48 48 s) s)))
+  behind_is : behind ≡ drop (leading 48 48 s) s
+  behind_is = rest s z ∙ rw e
 
-  pub day_1 : length s - z ≡ 1 → (r : Bool) → r ≡ (leb 49 (get_or s z 0) && leb (get_or s z 0) 57) → r ≡ accepts day_of_month s
-  day_1 l r x =
-      let g : get_or (drop z s) 0 0 ≡ get_or s z 0 = get_or-drop z s 0 0 ∙ rw add-zero in
-      x ∙ rw (← g) (day_one (drop z s) first (length-drop z s ∙ l) ∙ stripped)
+  first : get_or behind 0 0 ≡ 48 → ⊥
+  first = rw behind_is (front s)
 
-  pub day_2 : length s - z ≡ 2 → (r : Bool) → r ≡ is_two 10 31 (part z 2 s) → r ≡ accepts day_of_month s
-  day_2 l r x = x ∙ rw (take_all 2 (drop z s) (omega (arith, length-drop z s))) (day_two (drop z s) first (length-drop z s ∙ l) ∙ stripped)
+  stripped : is_day behind ≡ accepts day_of_month s
+  stripped = rw behind_is (sym (day_strip s ∙ day_is (drop (leading 48 48 s) s)))
 
-  pub day_3 : (length s - z ≡ 1 → ⊥) → (length s - z ≡ 2 → ⊥) → false ≡ accepts day_of_month s
-  day_3 p q = day_other (drop z s) first (rw length-drop p) (rw length-drop q) ∙ stripped
+  pub day_1 : 1 ≤ length behind → length behind < 2 → (r : Bool) → r ≡ (leb 49 (get_or behind 0 0) && leb (get_or behind 0 0) 57) → r ≡ accepts day_of_month s
+  day_1 l m r x = x ∙ day_one behind first (omega arith) ∙ stripped
+
+  pub day_2 : 2 ≤ length behind → length behind < 3 → (r : Bool) → r ≡ is_two 10 31 (get_or behind 0 0 ∷ get_or behind 1 0 ∷ []) → r ≡ accepts day_of_month s
+  day_2 l m r x = x ∙ ap (is_two 10 31) (two_of behind (omega arith)) ∙ day_two behind first (omega arith) ∙ stripped
+
+  pub day_3 : (length behind ≡ 1 → ⊥) → (length behind ≡ 2 → ⊥) → false ≡ accepts day_of_month s
+  day_3 p q = day_other behind first p q ∙ stripped

@@ -4,6 +4,7 @@ pub mod Stamps
 pub mod Texts
 pub mod Leading
 pub mod Decimals
+pub mod Following
 pub mod Pairs
 pub mod Times
 pub mod OfType

@@ -1,14 +1,13 @@
 -- Types 1, 2, 3, 10 and 16: the form is a walk over bytes. Assumes nothing.
 use mathlib.Core.Path.{◌≡◌, refl, sym, ◌∙◌}
-use Prim.Native.Nat.{ℕ, zero, suc, ◌+◌, ◌<◌, ◌≤◌}
-use native.Mathlib.Numerals.{add-one}
+use Prim.Native.Nat.{ℕ, zero, suc, ◌<◌}
 use native.Mathlib.Omega.{arith}
-use mathlib.Core.Bool.{Bool, true, false, ◌&&◌, ◌||◌, not, and-true, and_assoc}
+use mathlib.Core.Bool.{Bool, true, false, ◌&&◌, ◌||◌, not, cond, and-true, and-false, or-false, and_assoc}
 use mathlib.Core.List.{List, [], ◌∷◌}
 use lib.Dec.{leb, ltb, eqb, leb-zero}
-use lib.ListN.{length, drop, get_or, drop_of_length-le}
-use lib.Seq.{drop-cons}
+use lib.ListN.{length, get_or}
 use borrow.Author.Tests.{leb-true, leb-false, le-leb, lt-leb, eqb-true, eqb-false, ne_eqb, lt-ltb}
+use Rattle.std.specs.List.{list_any, list_all, slice_split, onto_first}
 use Rattle.numbers.specs.Bytes.{some, free}
 use Rattle.numbers.proofs.Tests.{only_one}
 use Rattle.forms.specs.Form.{Form, none, nil, one, ◌▷◌, many, seq, alt_r, alt, null, after, accepts}
@@ -23,6 +22,19 @@ Bytes s = (i : ℕ) → get_or s i 0 < 256
 pub some_is : (s : List ℕ) → ltb 0 (length s) ≡ some s
 some_is [] = refl
 some_is (b ∷ s) = lt-ltb 0 (suc (length s)) (omega arith)
+
+some_at : (s : List ℕ) → some s ≡ not (eqb (length s) 0)
+some_at [] = refl
+some_at (b ∷ s) = rw (ne_eqb (suc (length s)) 0 (λ e. omega arith))
+
+free_is : (s : List ℕ) → free 1 s ≡ not (list_any (λ b. eqb b 1) s)
+unfolding free
+free_is [] = refl
+free_is (b ∷ s) = rw (free_is s) (go (eqb b 1))
+  where
+    go : (t : Bool) → (not t && not (list_any (λ b. eqb b 1) s)) ≡ not (t || list_any (λ b. eqb b 1) s)
+    go true = refl
+    go false = refl
 
 -- at b, f is the one byte of which p holds
 abbrev pub Class : Form → (ℕ → Bool) → ℕ → Type 0
@@ -44,6 +56,14 @@ module _ (f : Form) (p : ℕ → Bool) (q : List ℕ → Bool) (ends : q [] ≡ 
   more_is z [] h = rw z
   more_is z (b ∷ s) h = rw (z, after, h 0, steps b s) (step (p b) s (many_is s (λ i. h (suc i))))
 
+any_null : null any ≡ false
+unfolding any null
+any_null = refl
+
+any_wide : (b c : ℕ) (s : List ℕ) → accepts any (b ∷ c ∷ s) ≡ false
+unfolding any width fixed
+any_wide b c s = wrong_width any refl (b ∷ c ∷ s) (λ e. omega arith)
+
 -- any byte but 1
 any_class : (b : ℕ) → b < 256 → Class any (λ b. not (eqb b 1)) b
 unfolding any after alt alt_r
@@ -57,12 +77,13 @@ module _ (s : List ℕ) (h : Bytes s) where
   unfolding string free any null
   string_is = more_is any (λ b. not (eqb b 1)) (free 1) refl (λ b s. refl) refl s (λ i. any_class (get_or s i 0) (h i))
 
-  pub string_at : (p q : Bool) → p ≡ some s → q ≡ free 1 s → (p && q) ≡ accepts string s
-  string_at p q x y = rw (x, y) (sym string_is)
+  -- as the code has it
+  pub string_at : accepts string s ≡ (not (eqb (length s) 0) && not (list_any (λ b. eqb b 1) s))
+  string_at = string_is ∙ rw (free_is s, some_at s)
 
-  pub blob_is : accepts blob s ≡ some s
+  pub blob_is : accepts blob s ≡ not (eqb (length s) 0)
   unfolding blob null after
-  blob_is = more_is (one 0 255) (λ b. true) (λ s. true) refl (λ b s. refl) refl s full ∙ and-true (some s)
+  blob_is = rw (← some_at s) (more_is (one 0 255) (λ b. true) (λ s. true) refl (λ b s. refl) refl s full ∙ and-true (some s))
     where
       full : (i : ℕ) → Class (one 0 255) (λ b. true) (get_or s i 0)
       full i = let g = h i in rw (leb-zero (get_or s i 0), le-leb (get_or s i 0) 255 (omega arith), after)
@@ -124,55 +145,61 @@ from_is (b ∷ s) false h =
     go false p true q ih jh = jh
     go false p false q ih jh = ih
 
-pub words_is : (s : List ℕ) → Bytes s → accepts words s ≡ words_from true s
+-- words are strings parted by single spaces
+abbrev is_space : ℕ → Bool
+is_space b = eqb b 32
+
+-- the parts of s, as they stand before a gap and in a word
+abbrev Parts : List ℕ → List (List ℕ) → Type 0
+Parts s [] = ⊥
+Parts s (h ∷ t) =
+    Bytes h
+    × (words_from true s ≡ (some h && free 1 h && list_all (accepts string) t))
+    × (words_from false s ≡ (free 1 h && list_all (accepts string) t))
+
+parts : (s : List ℕ) → Bytes s → Parts s (slice_split is_space s)
+unfolding words_from free
+parts [] k = (k, refl, refl)
+parts (b ∷ s) k = go (eqb b 32) refl (slice_split is_space s) (parts s (λ i. k (suc i)))
+  where
+    go : (t : Bool) → eqb b 32 ≡ t → (p : List (List ℕ)) → Parts s p → Parts (b ∷ s) (cond t ([] ∷ p) (onto_first b p))
+    go t e [] m = absurd m
+    go true e (h ∷ p) m =
+        let n : eqb b 1 ≡ false = ne_eqb b 1 (λ q. omega (arith, eqb-true b 32 e)) in
+        (λ i. omega arith, rw (n, e), rw (n, e) (m.1 ∙ rw (string_is h m.0)))
+    go false e (h ∷ p) m = (front, same true, same false)
+      where
+        front : Bytes (b ∷ h)
+        front zero = k 0
+        front (suc i) = m.0 i
+
+        same : (gap : Bool) → (not (eqb b 1 || (gap && eqb b 32)) && words_from (eqb b 32) s) ≡ (not (eqb b 1) && free 1 h && list_all (accepts string) p)
+        same gap = rw (e, and-false gap, or-false (eqb b 1), m.2) (sym (and_assoc (not (eqb b 1)) (free 1 h) (list_all (accepts string) p)))
+
+pub words_is : (s : List ℕ) → Bytes s → accepts words s ≡ list_all (accepts string) (slice_split is_space s)
 unfolding word_at
-words_is s h = from_is s true h
+words_is s k = from_is s true k ∙ go (slice_split is_space s) (parts s k)
+  where
+    go : (p : List (List ℕ)) → Parts s p → words_from true s ≡ list_all (accepts string) p
+    go [] m = absurd m
+    go (h ∷ p) m = m.1 ∙ rw (string_is h m.0)
 
 -- one byte
-module _ (s : List ℕ) where
-  pub char_wrong : (length s ≡ 1 → ⊥) → false ≡ accepts char s
-  unfolding char any width fixed
-  char_wrong n = sym (wrong_width char refl s n)
+longer : (s : List ℕ) → eqb (suc (suc (length s))) 1 ≡ false
+longer s = ne_eqb (suc (suc (length s))) 1 (λ e. omega arith)
 
-  pub boolean_wrong : (length s ≡ 1 → ⊥) → false ≡ accepts boolean s
-  unfolding boolean byte width fixed
-  boolean_wrong n = sym (wrong_width boolean refl s n)
-
-pub char_is : (s : List ℕ) → Bytes s → length s ≡ 1 → not (eqb (get_or s 0 0) 1) ≡ accepts char s
+pub char_is : (s : List ℕ) → Bytes s → accepts char s ≡ (eqb (length s) 1 && not (eqb (get_or s 0 0) 1))
 unfolding char accepts null
-char_is [] h l = absurd (omega arith)
-char_is (b ∷ []) h l = rw (any_class b (h 0)) (go (not (eqb b 1)))
+char_is [] h = any_null
+char_is (b ∷ []) h = rw (any_class b (h 0)) (go (not (eqb b 1)))
   where
-    go : (t : Bool) → t ≡ null (elim t [ true ↦ nil | false ↦ none ])
+    go : (t : Bool) → null (elim t [ true ↦ nil | false ↦ none ]) ≡ t
     go true = refl
     go false = refl
-char_is (b ∷ c ∷ s) h l = absurd (omega arith)
+char_is (b ∷ c ∷ s) h = rw (longer s) (any_wide b c s)
 
-pub boolean_is : (s : List ℕ) → length s ≡ 1 → (eqb (get_or s 0 0) 89 || eqb (get_or s 0 0) 78) ≡ accepts boolean s
-unfolding boolean byte
-boolean_is [] l = absurd (omega arith)
-boolean_is (b ∷ []) l = sym (or_law (b ∷ []) (byte 89) (byte 78) ∙ rw (one_law 89 89 b, one_law 78 78 b, only_one 89 b, only_one 78 b))
-boolean_is (b ∷ c ∷ s) l = absurd (omega arith)
-
--- the turns of the two loops
-module _ (s : List ℕ) (ok : Bool) (i : ℕ) (inv : free 1 s ≡ (ok && free 1 (drop i s))) where
-  pub free_next : i < length s → free 1 s ≡ (ok && not (eqb (get_or s i 0) 1) && free 1 (drop (i + 1) s))
-  unfolding free
-  free_next h = inv ∙ rw (add-one, drop-cons s i 0) (sym (and_assoc ok (not (eqb (get_or s i 0) 1)) (free 1 (drop (suc i) s))))
-
-  pub free_end : length s ≤ i → ok ≡ free 1 s
-  unfolding free
-  free_end h = rw (inv, drop_of_length-le s) (sym (and-true ok))
-
-module _ (s : List ℕ) (gap : Bool) (i : ℕ) (inv : accepts words s ≡ words_from gap (drop i s)) where
-  pub words_stop : i < length s → (eqb (get_or s i 0) 1 || (gap && eqb (get_or s i 0) 32)) ≡ true → false ≡ accepts words s
-  unfolding words_from
-  words_stop h e = rw (inv, drop-cons s i 0, e)
-
-  pub words_next : i < length s → (eqb (get_or s i 0) 1 || (gap && eqb (get_or s i 0) 32)) ≡ false → accepts words s ≡ words_from (eqb (get_or s i 0) 32) (drop (i + 1) s)
-  unfolding words_from
-  words_next h e = inv ∙ rw (add-one, drop-cons s i 0, e)
-
-  pub words_end : length s ≤ i → not gap ≡ accepts words s
-  unfolding words_from
-  words_end h = rw (inv, drop_of_length-le s)
+pub boolean_is : (s : List ℕ) → accepts boolean s ≡ (eqb (length s) 1 && (eqb (get_or s 0 0) 89 || eqb (get_or s 0 0) 78))
+unfolding boolean byte accepts null width fixed
+boolean_is [] = refl
+boolean_is (b ∷ []) = or_law (b ∷ []) (byte 89) (byte 78) ∙ rw (one_law 89 89 b, one_law 78 78 b, only_one 89 b, only_one 78 b)
+boolean_is (b ∷ c ∷ s) = rw (longer s) (wrong_width boolean refl (b ∷ c ∷ s) (λ e. omega arith))

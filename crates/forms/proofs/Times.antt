@@ -5,19 +5,25 @@ use native.Mathlib.Omega.{arith}
 use mathlib.Core.Bool.{Bool, true, false, ◌&&◌, ◌||◌, and-false, and-true, and_assoc, or-false, false≢true}
 use mathlib.Core.List.{List, [], ◌∷◌}
 use lib.Dec.{leb, eqb}
-use lib.ListN.{length, take, drop, get_or, length-take, length-drop}
-use lib.Seq.{take_all, drop-drop}
+use lib.ListN.{length, take, drop, get_or}
+use lib.Seq.{take_all}
 use borrow.Author.Tests.{leb-true, le-leb, eqb-true, eq-eqb, ne_eqb}
 use Rattle.numbers.specs.Bytes.{mem}
 use Rattle.numbers.specs.Decimal.{digit, digits, value_from}
-use Rattle.numbers.proofs.Tests.{and_left, and_right}
+use Rattle.numbers.proofs.Tests.{and_right}
 use Rattle.forms.specs.Form.{Form, nil, one, ◌▷◌, ◌∣◌, seq, alt_r, alt, null, after, accepts}
 use Rattle.forms.specs.Meaning.{none_law, or_law, one_law}
 use Rattle.forms.specs.Types.{byte, digit as digit_form, maybe, times, two_below, two, colon, date, time, fraction, offset, timestamp, time_only, month_year, tz_time, all_counts}
-use Rattle.forms.specs.Words.{is_two, is_byte, part, is_fraction}
-use Rattle.forms.proofs.Positions.{width, fixed, all_wide, layout, wrong_width, exact, least, too_short, rest}
-use Rattle.forms.proofs.Stamps.{times_law, month_is, day2_is, minute_is, second_is, byte_is, colon_is, empty_is, fraction_is, maybe_then, first, second, hour_minute, offset_parts}
-use Rattle.forms.proofs.Pairs.{byte_at}
+use Rattle.forms.specs.Words.{is_two, is_byte, is_fraction}
+use Rattle.forms.proofs.Positions.{width, fixed, layout, wrong_width, rest}
+use Rattle.forms.proofs.Stamps.{times_law, month_is, day2_is, hour_is, minute_is, second_is, byte_is, colon_is, empty_is, fraction_is, maybe_then}
+use denote.Ref.{Bor}
+use mathlib.Core.Logic.{◌⊎◌, inl, inr}
+use Rattle.std.specs.Option.{unwrap_or}
+use Rattle.std.specs.declared.option.Option.{Option}
+use Rattle.std.specs.declared.option.Option.TheVariants.{None, Some}
+use Rattle.forms.specs.Walks.{LeavesBehind, Leaves, takes}
+use Rattle.forms.proofs.Following.{assoc, assoc_3, same_leaves, whole, pair_leaves, stop, go_on, stands, byte_on}
 
 -- two digits, any number
 any_two : (a b : ℕ) → is_two 0 99 (a ∷ b ∷ []) ≡ (digit a && digit b)
@@ -35,111 +41,185 @@ any_two a b = go (digit a) refl (digit b) refl
     go true x false y = refl
     go false x u y = refl
 
--- YYYY as two of two digits
-year_is : (s : List ℕ) → (eqb (length (take 4 s)) 4 && digits (take 4 s)) ≡ (is_two 0 99 (take 2 s) && is_two 0 99 (part 2 2 s))
-unfolding is_two digits
-year_is [] = refl
-year_is (a ∷ []) = refl
-year_is (a ∷ b ∷ []) = sym (and-false (is_two 0 99 (a ∷ b ∷ [])))
-year_is (a ∷ b ∷ c ∷ []) = sym (and-false (is_two 0 99 (a ∷ b ∷ [])))
-year_is (a ∷ b ∷ c ∷ d ∷ s) = go (digit a) (digit b) ∙ sym (ap (λ t. t && is_two 0 99 (c ∷ d ∷ [])) (any_two a b) ∙ ap (λ t. digit a && digit b && t) (any_two c d))
-  where
-    go : (t u : Bool) → (t && (u && (digit c && (digit d && true)))) ≡ (t && u && (digit c && digit d))
-    go true true = ap (λ t. digit c && t) (and-true (digit d))
-    go true false = refl
-    go false u = refl
+-- two digits, YYYYMM, `:` and 00 to 59, HH:MM
+abbrev Pair : Form
+Pair = times 2 digit_form
 
--- YYYYMM, then g
-year_month : (g : Form) (s : List ℕ)
-    → accepts (times 4 digit_form ▷ two 1 12 ▷ g) s ≡ (is_two 0 99 (take 2 s) && is_two 0 99 (part 2 2 s) && is_two 1 12 (part 4 2 s) && accepts g (drop 6 s))
-unfolding fixed width times digit_form two two_below byte alt alt_r seq
-year_month g s =
-    layout (times 4 digit_form) (two 1 12 ▷ g) refl s
-    ∙ rw (times_law 4 (take 4 s), year_is s, layout (two 1 12) g refl (drop 4 s), drop-drop 2 4 s, month_is (take 2 (drop 4 s)))
-    (sym (and_assoc (is_two 0 99 (take 2 s) && is_two 0 99 (part 2 2 s)) (is_two 1 12 (part 4 2 s)) (accepts g (drop 6 s))))
+abbrev pub Month : Form
+Month = times 4 digit_form ▷ two 1 12
+
+abbrev pub Sixtieth : Form
+Sixtieth = colon ▷ two 0 59
+
+abbrev pub Minutes : Form
+Minutes = two 0 23 ▷ colon ▷ two 0 59
+
+-- YYYY
+over : (n k : ℕ) → k < n → eqb n k ≡ false
+over n k l = ne_eqb n k (λ e. omega arith)
+
+pair_any : (s : List ℕ) → accepts Pair s ≡ is_two 0 99 s
+unfolding is_two digits value_from
+pair_any s = times_law 2 s ∙ go s
+  where
+    go : (s : List ℕ) → (eqb (length s) 2 && digits s) ≡ is_two 0 99 s
+    go [] = refl
+    go (a ∷ []) = refl
+    go (a ∷ b ∷ []) = ap (λ t. digit a && t) (and-true (digit b)) ∙ sym (any_two a b)
+    go (a ∷ b ∷ c ∷ s) = rw (over (suc (suc (suc (length s)))) 2 (omega arith))
+
+year_pairs : (s : List ℕ) → accepts (times 4 digit_form) s ≡ accepts (Pair ▷ Pair) s
+unfolding fixed width times digit_form seq digits
+year_pairs s = times_law 4 s ∙ go s ∙ sym (layout Pair Pair refl s ∙ rw (times_law 2 (take 2 s), times_law 2 (drop 2 s)))
+  where
+    go : (s : List ℕ) → (eqb (length s) 4 && digits s) ≡ (eqb (length (take 2 s)) 2 && digits (take 2 s) && (eqb (length (drop 2 s)) 2 && digits (drop 2 s)))
+    go [] = refl
+    go (a ∷ []) = refl
+    go (a ∷ b ∷ []) = sym (and-false (digit a && (digit b && true)))
+    go (a ∷ b ∷ c ∷ []) = sym (and-false (digit a && (digit b && true)))
+    go (a ∷ b ∷ c ∷ d ∷ []) = rw (and-true (digit b)) (sym (and_assoc (digit a) (digit b) (digit c && (digit d && true))))
+    go (a ∷ b ∷ c ∷ d ∷ e ∷ s) =
+        rw (over (suc (suc (suc (suc (suc (length s)))))) 4 (omega arith), over (suc (suc (suc (length s)))) 2 (omega arith)) (sym (and-false (digit a && (digit b && true))))
 
 module _ (s : List ℕ) where
-  pub date_wrong : (length s ≡ 8 → ⊥) → false ≡ accepts date s
-  unfolding date fixed width times digit_form two two_below byte alt alt_r seq
-  date_wrong n = sym (wrong_width date refl s n)
+  pub year_stop : LeavesBehind (is_two 0 99) 2 s None → Leaves (times 4 digit_form) s None
+  unfolding fixed width times digit_form seq
+  year_stop m = same_leaves (Pair ▷ Pair) refl s None (times 4 digit_form) refl refl year_pairs (stop Pair Pair refl refl s (pair_leaves 0 99 s Pair refl refl pair_any None m) None refl)
 
-  pub date_at : length s ≡ 8 → (p q : Bool) → p ≡ (is_two 0 99 (part 0 2 s) && is_two 0 99 (part 2 2 s) && is_two 1 12 (part 4 2 s)) → q ≡ is_two 1 31 (part 6 2 s)
-      → (p && q) ≡ accepts date s
-  unfolding date
-  date_at l p q x y = rw (x, y, take_all 2 (drop 6 s) (omega (arith, length-drop 6 s))) (sym (year_month (two 1 31) s ∙ rw (day2_is (drop 6 s))))
+  pub year_on : (x : Bor (List ℕ)) → LeavesBehind (is_two 0 99) 2 s (Some x) → (r : Option (Bor (List ℕ))) → LeavesBehind (is_two 0 99) 2 x.now r → Leaves (times 4 digit_form) s r
+  unfolding fixed width times digit_form seq
+  year_on x m r n =
+      same_leaves (Pair ▷ Pair) refl s r (times 4 digit_form) refl refl year_pairs
+      (go_on Pair Pair refl refl s x (pair_leaves 0 99 s Pair refl refl pair_any (Some x) m) r (pair_leaves 0 99 x.now Pair refl refl pair_any r n))
 
-  pub month_year_short : length s < 6 → false ≡ accepts month_year s
-  unfolding month_year least times digit_form two two_below byte alt alt_r seq
-  month_year_short l = sym (too_short month_year s l)
+  pub month_stop : Leaves (times 4 digit_form) s None → (r : Option (Bor (List ℕ))) → r ≡ None → Leaves Month s r
+  unfolding fixed width times digit_form seq two two_below byte alt alt_r
+  month_stop = stop (times 4 digit_form) (two 1 12) refl refl s
 
-  pub month_year_at : (p q : Bool) → p ≡ (is_two 0 99 (part 0 2 s) && is_two 0 99 (part 2 2 s) && is_two 1 12 (part 4 2 s))
-      → q ≡ accepts (nil ∣ two 1 31 ∣ byte 119 ▷ one 49 53) (take (length s - 6) (drop 6 s))
-      → (p && q) ≡ accepts month_year s
-  unfolding month_year
-  month_year_at p q x y = rw (x, y, rest s 6) (sym (year_month (nil ∣ two 1 31 ∣ byte 119 ▷ one 49 53) s))
+  pub month_on : (x : Bor (List ℕ)) → Leaves (times 4 digit_form) s (Some x) → (r : Option (Bor (List ℕ))) → LeavesBehind (is_two 1 12) 2 x.now r → Leaves Month s r
+  unfolding fixed width times digit_form seq two two_below byte alt alt_r
+  month_on x p r m = go_on (times 4 digit_form) (two 1 12) refl refl s x p r (pair_leaves 1 12 x.now (two 1 12) refl refl month_is r m)
 
-  pub time_wrong : (length s ≡ 8 → ⊥) → false ≡ accepts time s
-  unfolding time colon fixed width two two_below byte alt alt_r seq
-  time_wrong n = sym (wrong_width time refl s n)
+  pub date_stop : Leaves Month s None → (r : Option (Bor (List ℕ))) → r ≡ None → Leaves date s r
+  unfolding date fixed width times digit_form seq two two_below byte alt alt_r
+  date_stop p r e =
+      same_leaves (Month ▷ two 1 31) refl s r date refl refl (λ t. sym (assoc (times 4 digit_form) (two 1 12) (two 1 31) refl refl t))
+      (stop Month (two 1 31) refl refl s p r e)
 
-  pub hour_minute_at : 5 ≤ length s → (p q : Bool) → p ≡ is_two 0 23 (part 0 2 s) → q ≡ is_two 0 59 (part 3 2 s)
-      → (p && eqb (get_or s 2 0) 58 && q) ≡ (is_two 0 23 (part 0 2 s) && is_byte 58 (part 2 1 s) && is_two 0 59 (part 3 2 s))
-  hour_minute_at l p q x y = rw (x, y, byte_at s 2 58 (omega arith))
+  pub date_on : (x : Bor (List ℕ)) → Leaves Month s (Some x) → (r : Option (Bor (List ℕ))) → LeavesBehind (is_two 1 31) 2 x.now r → Leaves date s r
+  unfolding date fixed width times digit_form seq two two_below byte alt alt_r
+  date_on x p r m =
+      same_leaves (Month ▷ two 1 31) refl s r date refl refl (λ t. sym (assoc (times 4 digit_form) (two 1 12) (two 1 31) refl refl t))
+      (go_on Month (two 1 31) refl refl s x p r (pair_leaves 1 31 x.now (two 1 31) refl refl day2_is r m))
 
-  pub time_at : length s ≡ 8 → (p q : Bool) → p ≡ (is_two 0 23 (part 0 2 s) && is_byte 58 (part 2 1 s) && is_two 0 59 (part 3 2 s)) → q ≡ is_two 0 60 (part 6 2 s)
-      → (p && eqb (get_or s 5 0) 58 && q) ≡ accepts time s
-  unfolding time colon fixed width byte
-  time_at l p q x y =
-      and_assoc p (eqb (get_or s 5 0) 58) q
-      ∙ rw (x, y, ← byte_at s 5 58 (omega arith), take_all 2 (drop 6 s) (omega (arith, length-drop 6 s)))
-      (sym (hour_minute (colon ▷ two 0 60) s ∙ rw (layout colon (two 0 60) refl (drop 5 s), drop-drop 1 5 s, colon_is (take 1 (drop 5 s)), second_is (drop 6 s))))
+  pub sixtieth_stop : Leaves (byte 58) s None → (r : Option (Bor (List ℕ))) → r ≡ None → Leaves Sixtieth s r
+  unfolding colon fixed width two two_below byte alt alt_r
+  sixtieth_stop = stop colon (two 0 59) refl refl s
 
--- over any counts of a fraction's digits
-module _ (counts s : List ℕ) where
-  pub time_only_short : length s < 8 → false ≡ accepts (time_only counts) s
-  unfolding time_only time fraction maybe colon least two two_below byte alt alt_r seq
-  time_only_short l = sym (too_short (time_only counts) s (omega arith))
+  pub sixtieth_on : (x : Bor (List ℕ)) → Leaves (byte 58) s (Some x) → (r : Option (Bor (List ℕ))) → LeavesBehind (is_two 0 59) 2 x.now r → Leaves Sixtieth s r
+  unfolding colon fixed width two two_below byte alt alt_r
+  sixtieth_on x p r m = go_on colon (two 0 59) refl refl s x p r (pair_leaves 0 59 x.now (two 0 59) refl refl minute_is r m)
 
-  pub time_only_at : (p q : Bool) → p ≡ accepts time (take 8 s) → q ≡ accepts (fraction counts) (take (length s - 8) (drop 8 s))
-      → (p && q) ≡ accepts (time_only counts) s
-  unfolding time_only time colon fixed width two two_below byte alt alt_r seq
-  time_only_at p q x y = rw (x, y, rest s 8) (sym (layout time (fraction counts) refl s))
+  pub minutes_stop : LeavesBehind (is_two 0 23) 2 s None → (r : Option (Bor (List ℕ))) → r ≡ None → Leaves Minutes s r
+  unfolding colon fixed width two two_below byte alt alt_r
+  minutes_stop m = stop (two 0 23) Sixtieth refl refl s (pair_leaves 0 23 s (two 0 23) refl refl hour_is None m)
 
-  pub stamp_short : length s < 9 → false ≡ accepts (timestamp counts) s
-  unfolding timestamp date time fraction maybe colon least times digit_form two two_below byte alt alt_r seq
-  stamp_short l = sym (too_short (timestamp counts) s (omega arith))
+  pub minutes_on : (x : Bor (List ℕ)) → LeavesBehind (is_two 0 23) 2 s (Some x) → (r : Option (Bor (List ℕ))) → Leaves Sixtieth x.now r → Leaves Minutes s r
+  unfolding colon fixed width two two_below byte alt alt_r
+  minutes_on x m = go_on (two 0 23) Sixtieth refl refl s x (pair_leaves 0 23 s (two 0 23) refl refl hour_is (Some x) m)
 
-  pub stamp_at : 9 ≤ length s → (p q : Bool) → p ≡ accepts date (take 8 s) → q ≡ accepts (time_only counts) (take (length s - 9) (drop 9 s))
-      → (p && eqb (get_or s 8 0) 45 && q) ≡ accepts (timestamp counts) s
-  unfolding timestamp time_only date fixed width times digit_form two two_below byte alt alt_r seq
-  stamp_at l p q x y =
-      rw (x, y, rest s 9, ← byte_at s 8 45 l)
-      (and_assoc (accepts date (take 8 s)) (is_byte 45 (part 8 1 s)) (accepts (time_only counts) (drop 9 s))
-      ∙ sym (layout date (byte 45 ▷ time_only counts) refl s ∙ rw (layout (byte 45) (time_only counts) refl (drop 8 s), drop-drop 1 8 s, byte_is 45 (take 1 (drop 8 s)))))
+  time_parts : (t : List ℕ) → accepts time t ≡ accepts ((Minutes ▷ colon) ▷ two 0 60) t
+  unfolding time colon fixed width two two_below byte alt alt_r
+  time_parts t =
+      sym (assoc Minutes colon (two 0 60) refl refl t ∙ assoc_3 (two 0 23) colon (two 0 59) (colon ▷ two 0 60) refl refl refl t)
+
+  pub time_stop : Leaves Minutes s None → (r : Option (Bor (List ℕ))) → r ≡ None → Leaves time s r
+  unfolding time colon fixed width two two_below byte alt alt_r
+  time_stop p r e =
+      same_leaves ((Minutes ▷ colon) ▷ two 0 60) refl s r time refl refl time_parts
+      (stop (Minutes ▷ colon) (two 0 60) refl refl s (stop Minutes colon refl refl s p None refl) r e)
+
+  pub time_stop_2 : (x : Bor (List ℕ)) → Leaves Minutes s (Some x) → Leaves (byte 58) x.now None → (r : Option (Bor (List ℕ))) → r ≡ None → Leaves time s r
+  unfolding time colon fixed width two two_below byte alt alt_r
+  time_stop_2 x p q r e =
+      same_leaves ((Minutes ▷ colon) ▷ two 0 60) refl s r time refl refl time_parts
+      (stop (Minutes ▷ colon) (two 0 60) refl refl s (go_on Minutes colon refl refl s x p None q) r e)
+
+  pub time_on : (x : Bor (List ℕ)) → Leaves Minutes s (Some x) → (y : Bor (List ℕ)) → Leaves (byte 58) x.now (Some y)
+      → (r : Option (Bor (List ℕ))) → LeavesBehind (is_two 0 60) 2 y.now r → Leaves time s r
+  unfolding time colon fixed width two two_below byte alt alt_r
+  time_on x p y q r m =
+      same_leaves ((Minutes ▷ colon) ▷ two 0 60) refl s r time refl refl time_parts
+      (go_on (Minutes ▷ colon) (two 0 60) refl refl s y (go_on Minutes colon refl refl s x p (Some y) q) r (pair_leaves 0 60 y.now (two 0 60) refl refl second_is r m))
+
+-- as the code has it
+module _ (s : List ℕ) (r : Option (Bor (List ℕ))) where
+  pub date_all : Leaves date s r → accepts date s ≡ takes nil r
+  unfolding date fixed width times digit_form seq two two_below byte alt alt_r
+  date_all = whole date refl s r
+
+  pub sixtieth_all : Leaves Sixtieth s r → accepts Sixtieth s ≡ takes nil r
+  unfolding colon fixed width two two_below byte alt alt_r
+  sixtieth_all = whole Sixtieth refl s r
+
+  pub month_year_at : Leaves Month s r → accepts month_year s ≡ takes (nil ∣ two 1 31 ∣ byte 119 ▷ one 49 53) r
+  unfolding month_year fixed width times digit_form seq two two_below byte alt alt_r
+  month_year_at p =
+      sym (assoc (times 4 digit_form) (two 1 12) (nil ∣ two 1 31 ∣ byte 119 ▷ one 49 53) refl refl s) ∙ p (nil ∣ two 1 31 ∣ byte 119 ▷ one 49 53)
+
+  pub time_only_at : (counts : List ℕ) → Leaves time s r → accepts (time_only counts) s ≡ takes (fraction counts) r
+  unfolding time_only
+  time_only_at counts p = p (fraction counts)
+
+  pub stamp_at : (counts : List ℕ) → Leaves date s r → accepts (timestamp counts) s ≡ takes (byte 45 ▷ time_only counts) r
+  unfolding timestamp time_only
+  stamp_at counts p = p (byte 45 ▷ time ▷ fraction counts)
+
+  pub stamp_on : (x : Bor (List ℕ)) → Leaves date s (Some x) → 1 ≤ length x.now → get_or x.now 0 0 ≡ 45
+      → accepts (timestamp all_counts) s ≡ accepts (time_only all_counts) (take (length x.now - 1) (drop 1 x.now))
+  unfolding timestamp time_only
+  stamp_on x p l e = p (byte 45 ▷ time ▷ fraction all_counts) ∙ byte_on 45 (time ▷ fraction all_counts) x.now l e ∙ rw (rest x.now 1)
+
+  pub tz_at : Leaves Minutes s r → accepts tz_time s ≡ takes (maybe Sixtieth ▷ offset) r
+  unfolding tz_time colon fixed width two two_below byte alt alt_r
+  tz_at p = sym (assoc_3 (two 0 23) colon (two 0 59) (maybe Sixtieth ▷ offset) refl refl refl s) ∙ p (maybe Sixtieth ▷ offset)
 
 -- a fraction's digits
-pub count_is : (n : ℕ) → (eqb n 3 || eqb n 6 || eqb n 9 || eqb n 12) ≡ mem n all_counts
+pub count_is : (n : ℕ) → mem n all_counts ≡ (eqb n 3 || eqb n 6 || eqb n 9 || eqb n 12)
 unfolding mem all_counts
 count_is n = go (eqb n 3) (eqb n 6) (eqb n 9)
   where
-    go : (a b c : Bool) → (a || b || c || eqb n 12) ≡ (a || (b || (c || (eqb n 12 || false))))
+    go : (a b c : Bool) → (a || (b || (c || (eqb n 12 || false)))) ≡ (a || b || c || eqb n 12)
     go true b c = refl
     go false true c = refl
     go false false true = refl
-    go false false false = sym (or-false (eqb n 12))
+    go false false false = or-false (eqb n 12)
 
-pub fraction_none : (counts s : List ℕ) → length s ≡ 0 → true ≡ accepts (fraction counts) s
+fraction_cons : (counts : List ℕ) (b : ℕ) (s : List ℕ) → is_fraction counts (b ∷ s) ≡ (eqb b 46 && (mem (length s) counts && digits s))
+unfolding is_fraction
+fraction_cons counts b s = refl
+
+pub fraction_none : (counts s : List ℕ) → length s < 1 → true ≡ accepts (fraction counts) s
 unfolding is_fraction
 fraction_none counts [] l = sym (fraction_is counts [])
 fraction_none counts (b ∷ s) l = absurd (omega arith)
 
-pub fraction_at : (counts s : List ℕ) → (length s ≡ 0 → ⊥) → (p q : Bool) → p ≡ mem (length s - 1) counts → q ≡ digits (take (length s - 1) (drop 1 s))
-    → (eqb (get_or s 0 0) 46 && p && q) ≡ accepts (fraction counts) s
-unfolding is_fraction
-fraction_at counts [] n p q x y = absurd (n refl)
-fraction_at counts (b ∷ s) n p q x y =
-    let k : suc (length s) - 1 ≡ length s = omega arith in
-    rw (x, y, k, take_all (length s) s (omega arith)) (and_assoc (eqb b 46) (mem (length s) counts) (digits s) ∙ sym (fraction_is counts (b ∷ s)))
+module _ (counts s : List ℕ) (l : 1 ≤ length s) where
+  pub fraction_on : get_or s 0 0 ≡ 46 → accepts (fraction counts) s ≡ (mem (length (take (length s - 1) (drop 1 s))) counts && digits (take (length s - 1) (drop 1 s)))
+  fraction_on e = go s l e
+    where
+      go : (s : List ℕ) → 1 ≤ length s → get_or s 0 0 ≡ 46 → accepts (fraction counts) s ≡ (mem (length (take (length s - 1) (drop 1 s))) counts && digits (take (length s - 1) (drop 1 s)))
+      go [] l e = absurd (omega arith)
+      go (b ∷ s) l e =
+          let k : suc (length s) - 1 ≡ length s = omega arith in
+          fraction_is counts (b ∷ s) ∙ fraction_cons counts b s ∙ rw (eq-eqb b 46 e, k, take_all (length s) s (omega arith))
+
+  pub fraction_off : (get_or s 0 0 ≡ 46 → ⊥) → false ≡ accepts (fraction counts) s
+  fraction_off n = go s l n
+    where
+      go : (s : List ℕ) → 1 ≤ length s → (get_or s 0 0 ≡ 46 → ⊥) → false ≡ accepts (fraction counts) s
+      go [] l n = absurd (omega arith)
+      go (b ∷ s) l n = sym (fraction_is counts (b ∷ s) ∙ fraction_cons counts b s ∙ rw (ne_eqb b 46 n))
 
 -- what follows YYYYMM
 month_rest : (s : List ℕ)
@@ -155,16 +235,24 @@ month_rest s =
       byte_is 119 (take 1 s),
     )
 
-pub month_rest_none : (s : List ℕ) → length s ≡ 0 → true ≡ accepts (nil ∣ two 1 31 ∣ byte 119 ▷ one 49 53) s
-month_rest_none s l = rw (month_rest s, eq-eqb (length s) 0 l)
+pub month_rest_none : (s : List ℕ) → length s < 1 → true ≡ accepts (nil ∣ two 1 31 ∣ byte 119 ▷ one 49 53) s
+month_rest_none s l = rw (month_rest s, eq-eqb (length s) 0 (omega arith))
 
-pub month_rest_at : (s : List ℕ) → length s ≡ 2 → (p q : Bool) → p ≡ is_two 1 31 (part 0 2 s) → q ≡ (leb 49 (get_or s 1 0) && leb (get_or s 1 0) 53)
-    → (p || (eqb (get_or s 0 0) 119 && q)) ≡ accepts (nil ∣ two 1 31 ∣ byte 119 ▷ one 49 53) s
+pub month_rest_week : (s : List ℕ) → 2 ≤ length s → length s < 3 → get_or s 0 0 ≡ 119
+    → (leb 49 (get_or s 1 0) && leb (get_or s 1 0) 53) ≡ accepts (nil ∣ two 1 31 ∣ byte 119 ▷ one 49 53) s
+unfolding is_byte is_two digits
+month_rest_week [] l m e = absurd (omega arith)
+month_rest_week (a ∷ []) l m e = absurd (omega arith)
+month_rest_week (a ∷ b ∷ []) l m e = rw e (sym (month_rest (119 ∷ b ∷ []) ∙ rw (one_law 49 53 b)))
+month_rest_week (a ∷ b ∷ c ∷ s) l m e = absurd (omega arith)
+
+pub month_rest_day : (s : List ℕ) → 2 ≤ length s → length s < 3 → (get_or s 0 0 ≡ 119 → ⊥)
+    → is_two 1 31 (get_or s 0 0 ∷ get_or s 1 0 ∷ []) ≡ accepts (nil ∣ two 1 31 ∣ byte 119 ▷ one 49 53) s
 unfolding is_byte
-month_rest_at [] l p q x y = absurd (omega arith)
-month_rest_at (a ∷ []) l p q x y = absurd (omega arith)
-month_rest_at (a ∷ b ∷ []) l p q x y = rw (x, y) (sym (month_rest (a ∷ b ∷ []) ∙ rw (one_law 49 53 b)))
-month_rest_at (a ∷ b ∷ c ∷ s) l p q x y = absurd (omega arith)
+month_rest_day [] l m n = absurd (omega arith)
+month_rest_day (a ∷ []) l m n = absurd (omega arith)
+month_rest_day (a ∷ b ∷ []) l m n = sym (month_rest (a ∷ b ∷ []) ∙ rw (ne_eqb a 119 n) (or-false (is_two 1 31 (a ∷ b ∷ []))))
+month_rest_day (a ∷ b ∷ c ∷ s) l m n = absurd (omega arith)
 
 pub month_rest_wrong : (s : List ℕ) → (length s ≡ 0 → ⊥) → (length s ≡ 2 → ⊥) → false ≡ accepts (nil ∣ two 1 31 ∣ byte 119 ▷ one 49 53) s
 unfolding fixed width byte two two_below alt alt_r
@@ -184,67 +272,78 @@ unfolding is_byte offset maybe colon two two_below byte accepts after null alt a
 colon_offset [] e = absurd (false≢true e)
 colon_offset (b ∷ s) e = ap (λ n. accepts (after n offset) s) (eqb-true b 58 e) ∙ none_law s
 
--- `:` and 00 to 59
-module _ (s : List ℕ) where
-  pub sixtieth_short : length s < 3 → false ≡ accepts (colon ▷ two 0 59) (take 3 s)
-  unfolding least colon byte two two_below alt alt_r
-  sixtieth_short l = sym (too_short (colon ▷ two 0 59) (take 3 s) (omega (arith, length-take 3 s)))
+-- optional :mm
+pub maybe_is : (s : List ℕ) → accepts (maybe Sixtieth) s ≡ (eqb (length s) 0 || accepts Sixtieth s)
+unfolding maybe
+maybe_is s = or_law s nil Sixtieth ∙ rw (empty_is s)
 
-  sixtieth_is : accepts (colon ▷ two 0 59) (take 3 s) ≡ (is_byte 58 (take 1 s) && is_two 0 59 (part 1 2 s))
-  unfolding fixed width colon byte
-  sixtieth_is = layout colon (two 0 59) refl (take 3 s) ∙ rw (colon_is (take 1 (take 3 s)), minute_is (drop 1 (take 3 s)), first s, second s)
+-- with seconds in front no offset begins, and without them none are left out
+no_colon : (s : List ℕ) → is_byte 58 (take 1 s) ≡ false → (g : Form) → accepts (Sixtieth ▷ g) s ≡ false
+unfolding colon fixed width two two_below byte alt alt_r
+no_colon s e g = assoc colon (two 0 59) g refl refl s ∙ layout colon (two 0 59 ▷ g) refl s ∙ rw (colon_is (take 1 s), e)
 
-  pub sixtieth_long : (p : Bool) → p ≡ accepts (colon ▷ two 0 59) (take 3 s) → p ≡ true → 3 ≤ length s
-  unfolding fixed width colon byte two two_below alt alt_r
-  sixtieth_long p x e = omega (arith, all_wide (colon ▷ two 0 59) refl (take 3 s) (sym x ∙ e), length-take 3 s)
+pub seconds_at : (s : Bor (List ℕ)) (r : Option (Bor (List ℕ))) → Leaves Sixtieth s.now r → accepts offset (unwrap_or r s).now ≡ accepts (maybe Sixtieth ▷ offset) s.now
+seconds_at s None p = sym (maybe_then Sixtieth offset s.now ∙ rw (p offset) (or-false (accepts offset s.now)))
+seconds_at s (Some x) p = sym (maybe_then Sixtieth offset s.now ∙ rw (p offset) (ap (λ t. t || accepts offset x.now) (go (is_byte 58 (take 1 s.now)) refl)))
+  where
+    go : (t : Bool) → is_byte 58 (take 1 s.now) ≡ t → accepts offset s.now ≡ false
+    go true e = colon_offset s.now e
+    go false e = absurd (stands Sixtieth s.now x p (no_colon s.now e))
 
-  pub sixtieth_at : 3 ≤ length s → (p : Bool) → p ≡ is_two 0 59 (part 1 2 s) → (eqb (get_or s 0 0) 58 && p) ≡ accepts (colon ▷ two 0 59) (take 3 s)
-  sixtieth_at l p x = rw x (sym (sixtieth_is ∙ rw (byte_at s 0 58 (omega arith))))
+-- the offset by its first byte
+offset_cases : (s : List ℕ)
+    → accepts offset s ≡ (eqb (length s) 0 || (is_byte 90 s || ((is_byte 43 (take 1 s) || is_byte 45 (take 1 s)) && accepts (two 1 12 ▷ maybe Sixtieth) (drop 1 s))))
+unfolding offset fixed width byte
+offset_cases s =
+    or_law s nil (byte 90 ∣ (byte 43 ∣ byte 45) ▷ two 1 12 ▷ maybe Sixtieth)
+    ∙ rw (
+      empty_is s,
+      or_law s (byte 90) ((byte 43 ∣ byte 45) ▷ two 1 12 ▷ maybe Sixtieth),
+      layout (byte 43 ∣ byte 45) (two 1 12 ▷ maybe Sixtieth) refl s,
+      or_law (take 1 s) (byte 43) (byte 45),
+      byte_is 90 s,
+      byte_is 43 (take 1 s),
+      byte_is 45 (take 1 s),
+    )
 
-  pub minutes_at : (r : Bool) → r ≡ accepts (colon ▷ two 0 59) (take 3 s) → (eqb (length s) 0 || (eqb (length s) 3 && r)) ≡ accepts (maybe (colon ▷ two 0 59)) s
-  unfolding maybe colon fixed width two two_below byte alt alt_r
-  minutes_at r e = rw e (sym (or_law s nil (colon ▷ two 0 59) ∙ rw (empty_is s, exact (colon ▷ two 0 59) refl s)))
+pub offset_none : (s : List ℕ) → length s < 1 → true ≡ accepts offset s
+offset_none s l = rw (offset_cases s, eq-eqb (length s) 0 (omega arith))
 
-  pub offset_none : length s ≡ 0 → true ≡ accepts offset s
-  offset_none l = rw (offset_parts s, eq-eqb (length s) 0 l)
+pub offset_z : (s : List ℕ) → 1 ≤ length s → length s < 2 → get_or s 0 0 ≡ 90 → true ≡ accepts offset s
+unfolding is_byte
+offset_z [] l m e = absurd (omega arith)
+offset_z (a ∷ []) l m e = sym (offset_cases (a ∷ []) ∙ rw (eq-eqb a 90 e))
+offset_z (a ∷ b ∷ s) l m e = absurd (omega arith)
 
-  pub offset_at : 3 ≤ length s → (p q : Bool) → p ≡ is_two 1 12 (part 1 2 s) → q ≡ accepts (maybe (colon ▷ two 0 59)) (take (length s - 3) (drop 3 s))
-      → ((eqb (get_or s 0 0) 43 || eqb (get_or s 0 0) 45) && p && q) ≡ accepts offset s
-  offset_at l p q x y =
-      rw (x, y, rest s 3)
-      (and_assoc (eqb (get_or s 0 0) 43 || eqb (get_or s 0 0) 45) (is_two 1 12 (part 1 2 s)) (accepts (maybe (colon ▷ two 0 59)) (drop 3 s))
-      ∙ sym (offset_parts s ∙ rw (ne_eqb (length s) 0 (λ e. omega arith), long_byte 90 s (omega arith), byte_at s 0 43 (omega arith), byte_at s 0 45 (omega arith))))
+sign_is : (b : ℕ) (s : List ℕ) → 1 ≤ length s → is_byte b (take 1 s) ≡ eqb (get_or s 0 0) b
+unfolding is_byte
+sign_is b [] l = absurd (omega arith)
+sign_is b (c ∷ s) l = refl
 
-  -- with seconds in front no offset begins, and without them none are left out
-  pub seconds_taken : (p q : Bool) → p ≡ accepts (colon ▷ two 0 59) (take 3 s) → p ≡ true → q ≡ accepts offset (take (length s - 3) (drop 3 s))
-      → q ≡ accepts (maybe (colon ▷ two 0 59) ▷ offset) s
-  unfolding colon fixed width two two_below byte alt alt_r
-  seconds_taken p q x e y =
-      let f : accepts (colon ▷ two 0 59) (take 3 s) ≡ true = sym x ∙ e in
-      rw (y, rest s 3)
-      (sym
-      (maybe_then (colon ▷ two 0 59) offset s
-      ∙ rw (layout (colon ▷ two 0 59) offset refl s, f, colon_offset s (and_left (is_byte 58 (take 1 s)) (is_two 0 59 (part 1 2 s)) (sym sixtieth_is ∙ f)))))
+not_z : (s : List ℕ) → 1 ≤ length s → (get_or s 0 0 ≡ 90 → ⊥) ⊎ (2 ≤ length s) → is_byte 90 s ≡ false
+unfolding is_byte
+not_z [] l m = refl
+not_z (a ∷ []) l (inl n) = ne_eqb a 90 n
+not_z (a ∷ []) l (inr m) = absurd (omega arith)
+not_z (a ∷ b ∷ s) l m = refl
 
-  pub seconds_left : (p q : Bool) → p ≡ accepts (colon ▷ two 0 59) (take 3 s) → p ≡ false → q ≡ accepts offset s → q ≡ accepts (maybe (colon ▷ two 0 59) ▷ offset) s
-  unfolding colon fixed width two two_below byte alt alt_r
-  seconds_left p q x e y =
-      let f : accepts (colon ▷ two 0 59) (take 3 s) ≡ false = sym x ∙ e in
-      y ∙ sym (maybe_then (colon ▷ two 0 59) offset s ∙ rw (layout (colon ▷ two 0 59) offset refl s, f) (or-false (accepts offset s)))
+pub offset_off : (s : List ℕ) → 1 ≤ length s → (get_or s 0 0 ≡ 90 → ⊥) ⊎ (2 ≤ length s) → (get_or s 0 0 ≡ 43 → ⊥) → (get_or s 0 0 ≡ 45 → ⊥) → false ≡ accepts offset s
+offset_off s l m p n =
+    sym (offset_cases s ∙ rw (ne_eqb (length s) 0 (λ e. omega arith), not_z s l m, sign_is 43 s l, sign_is 45 s l, ne_eqb (get_or s 0 0) 43 p, ne_eqb (get_or s 0 0) 45 n))
 
-  pub tz_short : length s < 5 → false ≡ accepts tz_time s
-  unfolding tz_time offset maybe colon least two two_below byte alt alt_r
-  tz_short l = sym (too_short tz_time s (omega arith))
+pub offset_on : (s : List ℕ) → 1 ≤ length s → (get_or s 0 0 ≡ 43) ⊎ (get_or s 0 0 ≡ 45)
+    → (r : Option (Bor (List ℕ))) → LeavesBehind (is_two 1 12) 2 (take (length s - 1) (drop 1 s)) r
+    → accepts offset s ≡ takes (maybe (colon ▷ two 0 59)) r
+unfolding fixed width two two_below byte alt alt_r
+offset_on s l h r m =
+    offset_cases s
+    ∙ rw (ne_eqb (length s) 0 (λ e. omega arith), not_z s l (inl (other h)), sign_is 43 s l, sign_is 45 s l, signed h)
+    (rw (← rest s 1) (pair_leaves 1 12 (take (length s - 1) (drop 1 s)) (two 1 12) refl refl month_is r m (maybe Sixtieth)))
+  where
+    other : (get_or s 0 0 ≡ 43) ⊎ (get_or s 0 0 ≡ 45) → get_or s 0 0 ≡ 90 → ⊥
+    other (inl e) f = omega arith
+    other (inr e) f = omega arith
 
-  pub tz_at : (p q : Bool) → p ≡ (is_two 0 23 (part 0 2 s) && is_byte 58 (part 2 1 s) && is_two 0 59 (part 3 2 s))
-      → q ≡ accepts (maybe (colon ▷ two 0 59) ▷ offset) (take (length s - 5) (drop 5 s))
-      → (p && q) ≡ accepts tz_time s
-  unfolding tz_time
-  tz_at p q x y = rw (x, y, rest s 5) (sym (hour_minute (maybe (colon ▷ two 0 59) ▷ offset) s))
-
-pub offset_short : (s : List ℕ) → (length s ≡ 0 → ⊥) → length s < 3 → (eqb (length s) 1 && eqb (get_or s 0 0) 90) ≡ accepts offset s
-unfolding is_two is_byte
-offset_short [] n l = absurd (n refl)
-offset_short (a ∷ []) n l = sym (offset_parts (a ∷ []) ∙ rw (and-false (eqb a 43 || eqb a 45)) (or-false (eqb a 90)))
-offset_short (a ∷ b ∷ []) n l = sym (offset_parts (a ∷ b ∷ []) ∙ and-false (eqb a 43 || eqb a 45))
-offset_short (a ∷ b ∷ c ∷ s) n l = absurd (omega arith)
+    signed : (get_or s 0 0 ≡ 43) ⊎ (get_or s 0 0 ≡ 45) → (eqb (get_or s 0 0) 43 || eqb (get_or s 0 0) 45) ≡ true
+    signed (inl e) = rw (eq-eqb (get_or s 0 0) 43 e)
+    signed (inr e) = rw e

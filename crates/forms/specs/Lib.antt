@@ -3,3 +3,4 @@ pub mod Types
 pub mod Meaning
 pub mod Words
 pub mod Walks
+pub mod Numbered

@@ -1,16 +1,12 @@
-use borrow.Author.Rules.{rules}
-use mathlib.Core.Path.{sym, ◌∙◌}
-use Rattle.forms.proofs.Leading.{count_start, count_stop, count_next, count_end}
+use Rattle.std.proofs.Common.{◌&&◌, Bool, ℕ, leb, sym, ◌∙◌, rules, tests}
+use Rattle.std.proofs.lemmas.Iterator.{YieldsList-from_slice}
+use Rattle.std.proofs.lemmas.Iterator.Consumers.{count_from_yields_List}
+use Rattle.std.proofs.lemmas.Iterator.Search.{YieldsList-from_take_while}
+use Rattle.forms.proofs.Leading.{leading_is}
 use Rattle.forms.proofs.number.count.Goals as goal
 
-pub loop-i-init : goal.loop-i-init
-loop-i-init c = count_start _ _ _
-
-pub returns-then-not-between : goal.returns-then-not-between
-returns-then-not-between c = let h = count_stop _ _ _ _ c.loop-i.invariant (search rules) (sym c.between.ensures ∙ c.if-not-between.true) in record { value = h.0; upper_bound = h.1 }
-
-pub loop-i-preserved : goal.loop-i-preserved
-loop-i-preserved c = count_next _ _ _ _ c.loop-i.invariant (search rules) (sym c.between.ensures ∙ c.if-not-between.false)
-
-pub returns : goal.returns
-returns c = let h = count_end _ _ _ _ c.loop-i.invariant c.loop-i-test.false in record { value = h.0; upper_bound = h.1 }
+pub returns-clause-value : goal.returns-clause-value
+returns-clause-value c =
+    let p : ℕ → Bool = λ b. leb c.args.lo b && leb b c.args.hi in
+    count_from_yields_List c.take_while.result _ c.count.ensures.ran (YieldsList-from_take_while _ p (YieldsList-from_slice c.args.s.now (cc)) c.take_while.ensures.closure c.take_while.ensures.done (λ x b q k. search (rules, tests)))
+    ∙ sym (leading_is c.args.lo c.args.hi c.args.s.now)

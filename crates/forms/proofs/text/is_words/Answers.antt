@@ -1,16 +1,14 @@
-use borrow.Author.Rules.{rules}
-use mathlib.Core.Path.{sym, ◌∙◌}
-use Rattle.forms.proofs.Texts.{words_is, words_stop, words_next, words_end}
+use Rattle.std.proofs.Common.{◌∙◌, sym, eqb, rules, tests}
+use Rattle.std.proofs.lemmas.Iterator.Splits.{YieldsList-from_slice_split}
+use Rattle.std.proofs.lemmas.Iterator.Search.{all_from_yields_List}
+use Rattle.forms.specs.Form.{accepts}
+use Rattle.forms.specs.Types.{string}
+use Rattle.forms.proofs.Texts.{words_is}
 use Rattle.forms.proofs.text.is_words.Goals as goal
 
-pub loop-i-init : goal.loop-i-init
-loop-i-init c = words_is _ (λ i. (c.shared_slice_known-1.given i).fits)
-
-pub returns-then-breaks : goal.returns-then-breaks
-returns-then-breaks c = words_stop _ _ _ c.loop-i.invariant (search rules) (sym c.breaks.ensures ∙ c.if-breaks.true)
-
-pub loop-i-preserved : goal.loop-i-preserved
-loop-i-preserved c = words_next _ _ _ c.loop-i.invariant (search rules) (sym c.breaks.ensures ∙ c.if-breaks.false)
-
 pub returns : goal.returns
-returns c = words_end _ _ _ c.loop-i.invariant c.loop-i-test.false
+returns c =
+    all_from_yields_List (accepts string) _ _ c.all.result c.all.ensures.ran
+    (YieldsList-from_slice_split _ (λ b. eqb b 32) c.args.s.now c.split.ensures.rest c.split.ensures.done c.split.ensures.closure (λ x b q k. search (rules, tests)))
+    (λ x b q k. search (rules, tests))
+    ∙ sym (words_is c.args.s.now (λ i. (c.type_inv.s i).fits))

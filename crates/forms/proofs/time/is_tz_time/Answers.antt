@@ -1,8 +1,9 @@
-use Rattle.forms.proofs.Times.{tz_short, tz_at}
+use Rattle.std.proofs.Common.{◌∙◌, sym}
+use Rattle.forms.specs.Form.{◌▷◌}
+use Rattle.forms.specs.Types.{maybe, colon, two, offset}
+use Rattle.forms.proofs.Following.{asked}
+use Rattle.forms.proofs.Times.{tz_at}
 use Rattle.forms.proofs.time.is_tz_time.Goals as goal
 
-pub returns-then-s-lt5 : goal.returns-then-s-lt5
-returns-then-s-lt5 c = tz_short _ c.if-s-lt5.true
-
 pub returns : goal.returns
-returns c = tz_at c.args.s.now _ _ c.hour_minute.ensures c.is_seconds_offset.ensures
+returns c = asked (maybe (colon ▷ two 0 59) ▷ offset) c.after_minutes.result _ c.is_some_and.ensures ∙ sym (tz_at _ _ c.after_minutes.ensures)
