@@ -1,4 +1,4 @@
 -- Laws of the questions, over plain lists and numbers.
 pub mod Lowest
-pub mod Values
+pub mod Rows
 pub mod Walking

@@ -9,7 +9,7 @@ use lib.Dec.{eqb, ltb}
 use lib.ListN.{length}
 use borrow.Author.Tests.{eqb-true, eqb-false, ltb-true, ltb-false, lt-ltb, le-ltb}
 use Rattle.numbers.proofs.Tests.{and_right}
-use Rattle.index.specs.Questions.{Found, row, absent, row_count, number, of_instance, instance_row, if_row, walk_from, walk, step, steps, answers}
+use Rattle.index.specs.Questions.{Found, row, absent, row_count, number, of_instance, instance_row, if_row, walk_from, walk, next_instance, step, rows_left, steps, answers}
 use Rattle.index.proofs.Lowest.{lowest_found}
 
 -- ---- a function that takes t values takes them on t arguments
@@ -82,23 +82,23 @@ module _ (index : List ℕ) (c : ℕ) where
   abbrev Enough : ℕ → ℕ → Type 0
   Enough f j = ((i : ℕ) → i < f → Present (i + j)) → instance_row index c (f + j) ≡ absent
 
-  -- an instance has a row of its own, so there are not more instances than rows
-  enough : Enough (row_count index) 1
-  enough all = by_answer (instance_row index c (row_count index + 1)) refl
+  -- an instance has a row of its own, so from any instance on there are not more instances than rows
+  enough : (j : ℕ) → Enough (row_count index) j
+  enough j all = by_answer (instance_row index c (row_count index + j)) refl
     where
       at : ℕ → ℕ
-      at k = number index k 5 - 1
+      at k = number index k 5 - j
 
-      taken : (j : ℕ) → Present (j + 1) → Taken at (row_count index) j
-      taken j (m, e) = let h = of_row (j + 1) m e in (m, h.0, omega (arith, h.1))
+      taken : (i : ℕ) → Present (i + j) → Taken at (row_count index) i
+      taken i (m, e) = let h = of_row (i + j) m e in (m, h.0, omega (arith, h.1))
 
-      by_answer : (r : Found) → instance_row index c (row_count index + 1) ≡ r → r ≡ absent
+      by_answer : (r : Found) → instance_row index c (row_count index + j) ≡ r → r ≡ absent
       by_answer absent e = refl
-      by_answer (row m) e = absurd (omega (arith, pigeon (row_count index) (suc (row_count index)) at (λ j p. by_test j p (ltb j (row_count index)) refl)))
+      by_answer (row m) e = absurd (omega (arith, pigeon (row_count index) (suc (row_count index)) at (λ i p. by_test i p (ltb i (row_count index)) refl)))
         where
-          by_test : (j : ℕ) → j < suc (row_count index) → (b : Bool) → ltb j (row_count index) ≡ b → Taken at (row_count index) j
-          by_test j p true t = taken j (all j (ltb-true j (row_count index) t))
-          by_test j p false t = let s : j ≡ row_count index = omega (arith, ltb-false j (row_count index) t) in taken j (m, rw s e)
+          by_test : (i : ℕ) → i < suc (row_count index) → (b : Bool) → ltb i (row_count index) ≡ b → Taken at (row_count index) i
+          by_test i p true t = taken i (all i (ltb-true i (row_count index) t))
+          by_test i p false t = let s : i ≡ row_count index = omega (arith, ltb-false i (row_count index) t) in taken i (m, rw s e)
 
   shift : (f j m : ℕ) → instance_row index c j ≡ row m → Enough (suc f) j → Enough f (suc j)
   shift f j m a b all = let s : f + suc j ≡ suc f + j = omega arith in ap (instance_row index c) s ∙ b each
@@ -122,8 +122,53 @@ module _ (index : List ℕ) (c : ℕ) where
 -- a walker that has not begun: n steps answer the rows of the walk, and from its end on that there is none
 pub steps_walk : (index : List ℕ) (c n k : ℕ) → row_count index ≤ k → steps index c n k ≡ answers n (walk index c)
 unfolding walk
-steps_walk index c n k h = from_here index c (row_count index) n 1 k (enough index c) (first_step index c k h)
+steps_walk index c n k h = from_here index c (row_count index) n 1 k (enough index c 1) (first_step index c k h)
 
 -- as `Walker::new` makes it: the count of the numbers is no row
 pub new_walk : (index : List ℕ) (c n : ℕ) → steps index c n (length index) ≡ answers n (walk index c)
 new_walk index c n = steps_walk index c n (length index) (omega arith)
+
+-- ---- the walker as an iterator
+
+module _ (index : List ℕ) (c : ℕ) where
+  -- where f instances are all that there can be, one more changes nothing
+  stable : (f j : ℕ) → Enough index c f j → walk_from index c f j ≡ walk_from index c (suc f) j
+  unfolding walk_from if_row
+  stable zero j b = let s : j ≡ 0 + j = omega arith in let e : instance_row index c j ≡ absent = ap (instance_row index c) s ∙ b (λ i p. absurd (omega arith)) in rw e
+  stable (suc f) j b = by_answer (instance_row index c j) refl (stable f (suc j))
+    where
+      by_answer : (r : Found) → instance_row index c j ≡ r
+          → (Enough index c f (suc j) → walk_from index c f (suc j) ≡ walk_from index c (suc f) (suc j))
+          → walk_from index c (suc f) j ≡ walk_from index c (suc (suc f)) j
+      by_answer absent a ih = rw a
+      by_answer (row m) a ih = rw a (ap (m ∷◌) (ih (shift index c f j m a b)))
+
+  more : (f j m : ℕ) → f ≡ row_count index → instance_row index c j ≡ row m → walk_from index c f j ≡ m ∷ walk_from index c f (suc j)
+  unfolding walk_from if_row
+  more zero j m e a = let h = of_row index c j m a in absurd (omega (arith, h.0))
+  more (suc f) j m e a =
+      let b : Enough index c (suc f) j = rw e (enough index c j) in
+      rw a (ap (m ∷◌) (stable f (suc j) (shift index c f j m a b)))
+
+  none : (f j : ℕ) → instance_row index c j ≡ absent → walk_from index c f j ≡ []
+  unfolding walk_from if_row
+  none zero j a = refl
+  none (suc f) j a = rw a
+
+  -- a walker that gives no row has none left
+  pub left_none : (k : ℕ) → step index c k ≡ absent → rows_left index c k ≡ []
+  unfolding step
+  left_none k e = none (row_count index) (next_instance index k) e
+
+  -- a walker that gives a row has that one and then those that are left from there
+  pub left_row : (k m : ℕ) → step index c k ≡ row m → rows_left index c k ≡ m ∷ rows_left index c m
+  unfolding step
+  left_row k m e = more (row_count index) (next_instance index k) m refl e ∙ ap (λ (j : ℕ). m ∷ walk_from index c (row_count index) j) (sym next)
+    where
+      next : next_instance index m ≡ suc (next_instance index k)
+      next = let h = of_row index c (next_instance index k) m e in rw (lt-ltb m (row_count index) h.0, h.1, add-one (next_instance index k))
+
+  -- one that has not begun has the whole walk left
+  pub left_all : (k : ℕ) → row_count index ≤ k → rows_left index c k ≡ walk index c
+  unfolding walk
+  left_all k h = rw (le-ltb k (row_count index) h)

@@ -70,6 +70,10 @@ unfoldable pub step : List ℕ → ℕ → ℕ → Found
 unfolding instance_row
 step index c k = instance_row index c (next_instance index k)
 
+-- the rows that the walker has still to give
+abbrev pub rows_left : List ℕ → ℕ → ℕ → List ℕ
+rows_left index c k = walk_from index c (row_count index) (next_instance index k)
+
 -- where it stands then: at the row given, or, at the end, where it stood
 abbrev pub standing : Found → ℕ → ℕ
 standing (row m) k = m

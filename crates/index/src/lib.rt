@@ -1,68 +1,106 @@
 // The questions of document 01 on an index: the value of a row, find, and a walker. They are asked of any lent numbers.
 #![tactic(auto)]
 
-ghost use Rattle.std.specs.Prelude.{◌≡◌, ◌<◌, length};
+ghost use Rattle.std.specs.Prelude.{◌≡◌, ◌&&◌, eqb, length};
+ghost use Rattle.std.specs.Iterator.{YieldsFirst, item_count};
+ghost use Rattle.std.specs.Simd.{first_chunks};
 ghost use Rattle.message.specs.Rows.{width};
-ghost use Rattle.index.specs.Questions.{row_count, number, value_of, of_instance, find as find_of, find_value, instance_row, next_instance, step as step_of};
-ghost use Rattle.index.specs.Answers.{found_of};
+ghost use Rattle.index.specs.Questions.{row_count, value_of, find as find_of, find_value, instance_row, next_instance, walk, step as step_of};
+ghost use Rattle.index.specs.Answers.{found_of, found_from, row_from, row_at, rows_of_walker};
 
 // "Six 16-bit numbers for each field".
 pub const WIDTH: usize = 6;
 
 // "it answers the row or that the tag is absent there".
-#[derive(Clone, Copy)]
+// kept: document 01 names this form, "find returns an enum Row(number) or Absent; callers take it apart by let .. else".
+#[derive(Clone, Copy, Debug, PartialEq, Eq)]
 pub enum Found {
     Row(usize),
     Absent,
 }
 
-// Number i of row k: 0 tag, 1 value start, 2 value length, 3 depth, 4 count row, 5 instance.
-fn number_at(index: &[u16], k: usize, i: usize) -> usize
-    requires { (k < row_count index.now) × (i < width) }
-    ensures { (result ≡ number index.now k i) × (result < 65536) }
+impl From<Option<usize>> for Found {
+    ghost from_gives = { λ row found. found_of found ≡ found_from row };
+
+    fn from(row: Option<usize>) -> Found {
+        row.map_or(Found::Absent, Found::Row)
+    }
+}
+
+// A row's numbers, in their order. No question asks for the depth.
+#[derive(Clone, Copy)]
+struct Row {
+    tag: u16,
+    start: u16,
+    length: u16,
+    depth: u16,
+    count: u16,
+    instance: u16,
+}
+
+impl Row {
+    fn of(numbers: &[u16; WIDTH]) -> Row
+        ensures { result ≡ row_from numbers.now }
+    {
+        let [tag, start, length, depth, count, instance] = *numbers;
+        Row {
+            tag,
+            start,
+            length,
+            depth,
+            count,
+            instance,
+        }
+    }
+
+    // Whether the row has this count row and instance; the depth is not compared.
+    fn is_in(self, count: usize, inst: usize) -> bool
+        ensures { result ≡ (eqb self.count count && eqb self.instance inst) }
+    {
+        usize::from(self.count) == count && usize::from(self.instance) == inst
+    }
+}
+
+// The rows: each whole six. A shorter rest is ignored.
+fn rows_of(index: &[u16]) -> &[[u16; WIDTH]]
+    ensures { result.now ≡ first_chunks width (row_count index.now) index.now }
 {
-    index[WIDTH * k + i] as usize
+    index.as_chunks().0
+}
+
+// Row k, if the index has so many.
+fn row_at(index: &[u16], k: usize) -> Option<Row>
+    ensures { result ≡ row_at index.now k }
+{
+    rows_of(index).get(k).map(Row::of)
 }
 
 // The part of the message that holds the value of row k. Start and length are added as wide numbers, so the sum does not wrap.
+#[tactic(auto, unfolding(crate::specs::Questions::value_of))]
 pub fn value<'a>(index: &[u16], message: &'a [u8], k: usize) -> &'a [u8]
     ensures { result.now ≡ value_of index.now message.now k }
 {
-    if index.len() / WIDTH <= k {
-        return &message[0..0];
-    }
-    let start = number_at(index, k, 1);
-    let end = start + number_at(index, k, 2);
-    if message.len() < end {
-        return &message[0..0];
-    }
-    &message[start..end]
-}
-
-// Whether row k has this count row and instance; the depth is not compared.
-fn of_instance(index: &[u16], count: usize, inst: usize, k: usize) -> bool
-    requires { k < row_count index.now }
-    ensures { result ≡ of_instance index.now count inst k }
-{
-    (number_at(index, k, 4) == count) & (number_at(index, k, 5) == inst)
+    let Some(row) = row_at(index, k) else {
+        return &[];
+    };
+    let start = usize::from(row.start);
+    let end = start + usize::from(row.length);
+    message.get(start..end).unwrap_or_default()
 }
 
 // The lowest row with this count row, instance and tag. They are compared as wide numbers: one above 65,535 is in no row.
 pub fn find(index: &[u16], count: usize, inst: usize, tag: usize) -> Found
     ensures { found_of result ≡ find_of index.now count inst tag }
 {
-    let rows = index.len() / WIDTH;
-    let mut k = 0;
-    while k < rows {
-        if of_instance(index, count, inst, k) & (number_at(index, k, 0) == tag) {
-            return Found::Row(k);
-        }
-        k += 1;
-    }
-    Found::Absent
+    rows_of(index)
+        .iter()
+        .map(Row::of)
+        .position(|row| row.is_in(count, inst) && usize::from(row.tag) == tag)
+        .into()
 }
 
 // The value of the row that find gives.
+#[tactic(auto, unfolding(crate::specs::Questions::find_value, crate::specs::Questions::if_row))]
 pub fn find_value<'a>(
     index: &[u16],
     message: &'a [u8],
@@ -73,7 +111,7 @@ pub fn find_value<'a>(
     ensures { result.now ≡ find_value index.now message.now count inst tag }
 {
     let Found::Row(k) = find(index, count, inst, tag) else {
-        return &message[0..0];
+        return &[];
     };
     value(index, message, k)
 }
@@ -82,33 +120,29 @@ pub fn find_value<'a>(
 fn instance_row(index: &[u16], count: usize, inst: usize) -> Found
     ensures { found_of result ≡ instance_row index.now count inst }
 {
-    let rows = index.len() / WIDTH;
-    let mut k = 0;
-    while k < rows {
-        if of_instance(index, count, inst, k) {
-            return Found::Row(k);
-        }
-        k += 1;
-    }
-    Found::Absent
+    rows_of(index)
+        .iter()
+        .map(Row::of)
+        .position(|row| row.is_in(count, inst))
+        .into()
 }
 
 // The instance that a walker at this row looks for: a wide number, so that the one after 65,535 is in no row.
 fn next_instance(index: &[u16], row: usize) -> usize
     ensures { result ≡ next_instance index.now row }
 {
-    if row < index.len() / WIDTH {
-        return number_at(index, row, 5) + 1;
-    }
-    1
+    let Some(row) = row_at(index, row) else {
+        return 1;
+    };
+    usize::from(row.instance) + 1
 }
 
 // The walker's work, on a plain slice and numbers: the row that it gives next.
+#[tactic(auto, unfolding(crate::specs::Questions::step))]
 pub fn step(rows: &[u16], count: usize, row: usize) -> Found
     ensures { found_of result ≡ step_of rows.now count row }
 {
-    let inst = next_instance(rows, row);
-    instance_row(rows, count, inst)
+    instance_row(rows, count, next_instance(rows, row))
 }
 
 // "a walker that holds the lent index and its place": the index, the count row, and the row at which it stands. Where that is no row of
@@ -122,8 +156,10 @@ pub struct Walker<'a> {
 
 impl<'a> Walker<'a> {
     // A walker that has not begun: the numbers are more than the rows, or there are none of either.
+    #[tactic(auto, using(crate::proofs::Walking::left_all))]
     pub fn new(rows: &'a [u16], count: usize) -> Walker<'a>
-        ensures { (result.rows ≡ rows.entry) × (result.count ≡ count) × (result.row ≡ length rows.now) }
+        ensures fields { (result.rows ≡ rows.entry) × (result.count ≡ count) × (result.row ≡ length rows.now) }
+        ensures left { rows_of_walker result ≡ walk rows.now count }
     {
         Walker {
             rows,
@@ -132,8 +168,8 @@ impl<'a> Walker<'a> {
         }
     }
 
-    // The row that the walker gives next.
-    pub fn next(self) -> Found
+    // The row that the walker gives next. It does not move.
+    pub fn peek(self) -> Found
         ensures { found_of result ≡ step_of self.entry.rows.now self.entry.count self.entry.row }
     {
         step(self.rows, self.count, self.row)
@@ -143,11 +179,25 @@ impl<'a> Walker<'a> {
     pub fn moved(self, row: usize) -> Walker<'a>
         ensures { (result.rows ≡ self.entry.rows) × (result.count ≡ self.entry.count) × (result.row ≡ row) }
     {
-        Walker {
-            rows: self.rows,
-            count: self.count,
-            row,
-        }
+        Walker { row, ..self }
+    }
+}
+
+// From row to row, as far as each instance has one. It ends, since each has a row of its own.
+impl<'a> Iterator for Walker<'a> {
+    type Item = usize;
+
+    ghost next_gives = { YieldsFirst rows_of_walker };
+
+    ghost remaining = { item_count rows_of_walker };
+
+    #[tactic(auto, using(crate::proofs::Walking::left_none, crate::proofs::Walking::left_row))]
+    fn next(&mut self) -> Option<usize> {
+        let Found::Row(row) = self.peek() else {
+            return None;
+        };
+        self.row = row;
+        Some(row)
     }
 }
 
@@ -155,5 +205,5 @@ impl<'a> Walker<'a> {
 pub fn row_after(rows: &[u16], count: usize, row: usize) -> Found
     ensures { found_of result ≡ step_of rows.now count row }
 {
-    Walker::new(rows, count).moved(row).next()
+    Walker::new(rows, count).moved(row).peek()
 }

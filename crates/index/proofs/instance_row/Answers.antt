@@ -1,18 +1,21 @@
-use mathlib.Core.Path.{sym, ◌∙◌}
-use Rattle.index.specs.Questions.{instance_row}
-use Rattle.index.proofs.Lowest.{start, hit, miss, end}
+use Rattle.std.proofs.Common.{◌≡◌, ◌&&◌, ◌∙◌, ap, eqb, map, rules, tests}
+use Rattle.std.specs.List.{position}
+use Rattle.std.specs.Simd.{first_chunks}
+use Rattle.std.proofs.lemmas.Iterator.{YieldsList-from_slice, YieldsList-from_map}
+use Rattle.std.proofs.lemmas.Iterator.Search.{position_from_yields_List}
+use Rattle.index.specs.Questions.{row_count, instance_row}
+use Rattle.index.specs.Answers.{found_from, row_from}
+use Rattle.index.specs.declared.Row.{Row}
+use Rattle.index.proofs.Rows.{position_lowest}
 use Rattle.index.proofs.instance_row.Goals as goal
-
-pub loop-k-init : goal.loop-k-init
-loop-k-init c = start _ _
-
-pub returns-then-of_instance : goal.returns-then-of_instance
-unfolding instance_row
-returns-then-of_instance c = hit _ _ _ c.loop-k.invariant c.loop-k-test.true (sym c.of_instance.ensures ∙ c.if-of_instance.true)
-
-pub loop-k-preserved : goal.loop-k-preserved
-loop-k-preserved c = miss _ _ _ c.loop-k.invariant c.loop-k-test.true (sym c.of_instance.ensures ∙ c.if-of_instance.false)
 
 pub returns : goal.returns
 unfolding instance_row
-returns c = end _ _ _ c.loop-k.invariant c.loop-k-test.false
+returns c =
+    let index = c.args.index.now in
+    let test : Row → _ = λ r. eqb r.count c.args.count && eqb r.instance c.args.inst in
+    let e : c.position.result ≡ position test (map row_from (first_chunks 6 (row_count index) index)) =
+    position_from_yields_List test _ _ c.position.result c.position.ensures.ran
+    (YieldsList-from_map _ row_from (YieldsList-from_slice (first_chunks 6 (row_count index) index) (cc)) c.map.ensures.closure (λ x r q k. search (rules, tests)))
+    (λ x b q k. search (rules, tests)) in
+    c.into.ensures ∙ ap found_from e ∙ position_lowest test index
