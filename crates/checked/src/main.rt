@@ -15,141 +15,91 @@
 
 mod pen;
 
-ghost use Rattle.std.specs.Prelude.{◌≤◌, length, IfOk};
-
 use book::Verdict;
-use pen::{Pen, REMARK, VALUE, WORDS};
+use pen::Pen;
 use std::io;
 use std::io::Read;
 
-fn say(rt: &impl Print, text: &[u8]) -> io::Result<()> {
-    rt.write_all(text)
-}
-
-fn say_verdict(rt: &impl Print, verdict: Verdict) -> io::Result<()> {
-    let Verdict::Broken(rule, offset) = verdict else {
-        return say(rt, b" SOUND\n");
-    };
-    say(rt, b" UNSOUND ")?;
-    rt.print(rule)?;
-    say(rt, b" ")?;
-    rt.print(offset)?;
-    say(rt, b"\n")
-}
-
-fn say_whether(rt: &impl Print, yes: bool) -> io::Result<()> {
-    if yes {
-        return say(rt, b" yes\n");
-    }
-    say(rt, b" no\n")
-}
+// The input is read up to here.
+const INPUT: u64 = 131072;
 
 // The answer to what was written: of a book, or of a value of a datatype.
-fn answer(rt: &impl Print, datatype: u16, bytes: &[u8]) -> io::Result<()> {
-    if datatype == 0 {
-        return say_verdict(rt, book::check(bytes));
+fn answer(rt: &impl Print, datatype: Option<u16>, bytes: &[u8]) -> io::Result<()> {
+    match datatype {
+        None => match book::check(bytes) {
+            Verdict::Sound => println!(rt; " SOUND"),
+            Verdict::Broken(rule, offset) => println!(rt; " UNSOUND {rule} {offset}"),
+        },
+        Some(n) if forms::of_type(n, bytes) => println!(rt; " yes"),
+        Some(_) => println!(rt; " no"),
     }
-    say_whether(rt, forms::of_type(datatype, bytes))
 }
 
-fn echo(rt: &impl Print, b: u8) -> io::Result<()> {
-    let byte = [b];
-    say(rt, &byte)
-}
-
-fn in_label(rt: &impl Print, b: u8, pen: Pen) -> io::Result<Pen> {
-    if b == b'#' {
-        return Ok(pen.to(REMARK));
-    }
-    if b == b':' {
-        return Ok(pen.to(WORDS));
-    }
-    if b == b'\n' {
-        return Ok(pen::fresh());
-    }
-    echo(rt, b)?;
-    if b == b'"' {
-        return Ok(pen.to(VALUE));
-    }
-    Ok(pen.label(b))
-}
-
-// The line ends behind the value's closing quote.
-fn in_value(rt: &impl Print, b: u8, pen: Pen, out: &mut [u8]) -> io::Result<Pen> {
-    if b == b'\n' {
-        let n = pen.at;
-        if 0 < n {
-            answer(rt, pen.datatype, numbers::part(out, 0, n - 1))?;
+// The number in a label's parentheses, if there is one.
+fn datatype(label: &[u8]) -> Option<u16> {
+    let mut n = 0;
+    let mut inside = false;
+    for &b in label {
+        match b {
+            b'(' => inside = true,
+            b')' => inside = false,
+            b'0'..=b'9' if inside => n = pen::further(n, b),
+            _ => {}
         }
-        return Ok(pen::fresh());
     }
-    echo(rt, b)?;
-    if b == b'|' {
-        return Ok(pen.byte(1, out));
-    }
-    Ok(pen.byte(b, out))
+    // No datatype has the number 0: it asks for a book.
+    if n == 0 { None } else { Some(n) }
 }
 
-fn in_words(rt: &impl Print, b: u8, pen: Pen, out: &mut [u8]) -> io::Result<Pen> {
-    if b == b'\n' {
-        let last = pen.ended(out);
-        answer(rt, last.datatype, numbers::part(out, 0, last.at))?;
-        return Ok(pen::fresh());
-    }
-    if b == b' ' {
-        return Ok(pen.ended(out));
-    }
-    Ok(pen.word_byte(b, out))
+// Whether no `)` closes the last `(` of a label.
+fn is_open(label: &[u8]) -> bool {
+    label.iter().rev().find(|b| matches!(b, b'(' | b')')) == Some(&b'(')
 }
 
-fn step(rt: &impl Print, b: u8, pen: Pen, out: &mut [u8]) -> io::Result<Pen> {
-    if pen.place == REMARK {
-        if b == b'\n' {
-            return Ok(pen::fresh());
+fn answer_words(rt: &impl Print, label: &[u8], words: &[u8]) -> io::Result<()> {
+    let mut pen = Pen::new();
+    pen.words(words, is_open(label));
+    answer(rt, datatype(label), pen.bytes())
+}
+
+// The last byte is the closing quote.
+fn answer_value(rt: &impl Print, label: &[u8], value: &[u8]) -> io::Result<()> {
+    let mut pen = Pen::new();
+    pen.text(value, b'|', 1);
+    match pen.bytes().split_last() {
+        Some((_, bytes)) => answer(rt, datatype(label), bytes),
+        None => Ok(()),
+    }
+}
+
+// Only the last line of the input may have no end, and then no answer.
+fn run_line(rt: &impl Print, line: &[u8]) -> io::Result<()> {
+    let end = line
+        .iter()
+        .position(|b| matches!(b, b'#' | b':' | b'"' | b'\n'));
+    let (label, rest) = line.split_at(end.unwrap_or(line.len()));
+    rt.write_all(label)?;
+    match rest {
+        [b':', words @ .., b'\n'] => answer_words(rt, label, words),
+        [b'"', value @ .., b'\n'] => {
+            rt.write_all(b"\"")?;
+            rt.write_all(value)?;
+            answer_value(rt, label, value)
         }
-        return Ok(pen);
+        [b'"', ..] => rt.write_all(rest),
+        _ => Ok(()),
     }
-    if pen.place == VALUE {
-        return in_value(rt, b, pen, out);
-    }
-    if pen.place == WORDS {
-        return in_words(rt, b, pen, out);
-    }
-    in_label(rt, b, pen)
 }
 
-fn steps(rt: &impl Print, input: &[u8], out: &mut [u8]) -> io::Result<()> {
-    let mut pen = pen::fresh();
-    let mut i = 0;
-    while i < input.len() {
-        pen = step(rt, input[i], pen, out)?;
-        i += 1;
+fn run(rt: &impl Print, input: &[u8]) -> io::Result<()> {
+    for line in input.split_inclusive(|b| *b == b'\n') {
+        run_line(rt, line)?;
     }
     Ok(())
 }
 
-fn run(rt: &impl Print, input: &[u8]) -> io::Result<()> {
-    let mut out = [0u8; 16400];
-    steps(rt, input, &mut out)
-}
-
-// Reads until the buffer is full or the input ends; how many bytes stand at its start.
-fn read_full<R: Read>(from: &mut R, buf: &mut [u8]) -> io::Result<usize>
-    ensures { IfOk result (λ n. n ≤ length buf.new) }
-{
-    let mut done = 0;
-    while done < buf.len() {
-        let n = from.read(&mut buf[done..])?;
-        if n == 0 {
-            break;
-        }
-        done += n;
-    }
-    Ok(done)
-}
-
 fn main(rt: HostRuntime) -> io::Result<()> {
-    let mut input = [0u8; 131072];
-    let n = read_full(&mut rt.stdin(), &mut input)?;
-    run(&rt, &input[..n])
+    let mut input = Vec::new(rt.alloc());
+    rt.stdin().take(INPUT).read_to_end(&mut input)?;
+    run(&rt, input.as_slice())
 }

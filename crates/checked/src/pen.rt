@@ -1,250 +1,158 @@
-// Writes the bytes of a case into a lent buffer. What does not fit is left out.
+// The bytes that the words or the value of a case write. What does not fit is left out.
+use arrayvec::ArrayVec;
 use numbers::{byte_at, u16_at};
 
-// Where in a line the reading stands.
-pub const LABEL: u8 = 0;
-
-pub const REMARK: u8 = 1;
-
-pub const VALUE: u8 = 2;
-
-pub const WORDS: u8 = 3;
-
-// What the word is that is being read.
-const NONE: u8 = 0;
-
-const NUMBER: u8 = 1;
-
-const TEXT: u8 = 2;
-
-const HEX: u8 = 3;
-
-const AGAIN: u8 = 4;
-
-const RUN: u8 = 5;
+// More than the 16,384 bytes of the longest book.
+const ROOM: usize = 16400;
 
 #[derive(Drop)]
 pub struct Pen {
-    pub place: u8,
-    pub datatype: u16,
-    // where the next byte goes
-    pub at: usize,
-    word: u8,
-    number: u16,
-    // whether a record is open, and where its length stands
-    open: bool,
-    start: usize,
+    out: ArrayVec<u8, ROOM>,
+    // where the length of the open record stands
+    open: Option<usize>,
 }
 
-pub fn fresh() -> Pen {
-    Pen {
-        place: LABEL,
-        datatype: 0,
-        at: 0,
-        word: NONE,
-        number: 0,
-        open: false,
-        start: 0,
-    }
-}
-
-fn digit(b: u8) -> u16 {
+// kept: what a case answers may not change, and a byte that is no digit counts too, where `to_digit` gives none.
+fn digit(b: u8) -> u8 {
     if b < b'a' {
-        return (b % 16) as u16;
+        return b % 16;
     }
-    (b % 16) as u16 + 9
+    b % 16 + 9
 }
 
-fn further(n: u16, b: u8) -> u16 {
-    ((n as u32 * 10 + digit(b) as u32) % 65536) as u16
+// A number with one digit more.
+pub fn further(n: u16, b: u8) -> u16 {
+    n.wrapping_mul(10).wrapping_add(u16::from(digit(b)))
 }
 
-fn put(out: &mut [u8], at: usize, b: u8) -> usize {
-    if at < out.len() {
-        out[at] = b;
-        return at + 1;
-    }
-    at
-}
-
-fn put_number(out: &mut [u8], at: usize, n: u16) -> usize {
-    let next = put(out, at, (n % 256) as u8);
-    put(out, next, (n / 256) as u8)
-}
-
-// So many bytes more, each as the one `back` before it.
-fn again(out: &mut [u8], from: usize, back: usize, count: u32) -> usize {
-    let mut at = from;
-    let mut turns = count;
-    while 0 < turns {
-        turns -= 1;
-        if back <= at {
-            let b = byte_at(out, at - back);
-            at = put(out, at, b);
-        }
-    }
-    at
-}
-
-// The tag of the field that ends there, one higher.
-fn raise(out: &mut [u8], end: usize) {
-    if end < 6 {
-        return;
-    }
-    let tag = u16_at(out, end - 6);
-    if tag < 65535 {
-        put_number(out, end - 6, tag + 1);
-    }
-}
-
-// So many fields more, the tag one higher each time.
-fn run(out: &mut [u8], from: usize, count: u16) -> usize {
-    let mut at = from;
-    let mut turns = count;
-    while 0 < turns {
-        turns -= 1;
-        at = again(out, at, 10, 10);
-        raise(out, at);
-    }
-    at
-}
-
-// What a word writes when it has ended.
-fn ended(out: &mut [u8], at: usize, word: u8, n: u16) -> usize {
-    match word {
-        NUMBER => put_number(out, at, n),
-        AGAIN => again(out, at, 4, n as u32 * 4),
-        RUN => run(out, at, n),
-        _ => at,
-    }
-}
-
-// The bytes behind a length.
-fn behind(start: usize, at: usize) -> u16 {
-    if at < start {
-        return 0;
-    }
-    let n = at - start;
-    if n < 2 {
-        return 0;
-    }
-    ((n - 2) % 65536) as u16
+fn number(digits: &[u8]) -> u16 {
+    digits.iter().fold(0, |n, b| further(n, *b))
 }
 
 impl Pen {
-    pub fn to(mut self, place: u8) -> Pen {
-        self.place = place;
-        self
-    }
-
-    // The datatype is the number behind `(`.
-    pub fn label(mut self, b: u8) -> Pen {
-        if b == b'(' {
-            self.word = NUMBER;
+    pub fn new() -> Pen {
+        Pen {
+            out: ArrayVec::new(),
+            open: None,
         }
-        if (self.word == NUMBER) & (b'0' <= b) & (b <= b'9') {
-            self.datatype = further(self.datatype, b);
+    }
+
+    pub fn bytes(&self) -> &[u8] {
+        self.out.as_slice()
+    }
+
+    fn put(&mut self, b: u8) {
+        let _ = self.out.try_push(b);
+    }
+
+    fn put_number(&mut self, n: u16) {
+        for b in n.to_le_bytes() {
+            self.put(b);
         }
-        if b == b')' {
-            self.word = NONE;
+    }
+
+    // In place of the number that stands there.
+    fn set_number(&mut self, at: usize, n: u16) {
+        for (old, new) in self.out.iter_mut().skip(at).zip(n.to_le_bytes()) {
+            *old = new;
         }
-        self
     }
 
-    pub fn byte(mut self, b: u8, out: &mut [u8]) -> Pen {
-        self.at = put(out, self.at, b);
-        self
-    }
-
-    fn number(mut self, n: u16, out: &mut [u8]) -> Pen {
-        self.at = put_number(out, self.at, n);
-        self
-    }
-
-    fn begin(mut self, kind: u16, out: &mut [u8]) -> Pen {
-        self.open = true;
-        self.start = self.at;
-        self.number(0, out).number(kind, out)
-    }
-
-    // Two digits make a byte; the first is kept with 16 on top.
-    fn hex(mut self, b: u8, out: &mut [u8]) -> Pen {
-        if self.number < 16 {
-            self.number = 16 + digit(b) % 16;
-            return self;
+    // A text in which one byte stands for another.
+    pub fn text(&mut self, text: &[u8], mark: u8, meant: u8) {
+        for &b in text {
+            self.put(if b == mark { meant } else { b });
         }
-        let n = self.number % 16 * 16 + digit(b) % 16;
-        self.number = 0;
-        self.byte(n as u8, out)
     }
 
-    fn text(self, b: u8, out: &mut [u8]) -> Pen {
-        if b == b'_' {
-            return self.byte(0, out);
+    // Two digits make a byte; one that is left over is left out.
+    fn hex(&mut self, digits: &[u8]) {
+        let (pairs, _) = digits.as_chunks::<2>();
+        for [high, low] in pairs {
+            self.put(digit(*high) % 16 * 16 + digit(*low) % 16);
         }
-        self.byte(b, out)
     }
 
-    // The first byte of a word.
-    fn first(mut self, b: u8, out: &mut [u8]) -> Pen {
+    // So many bytes more, each as the one `back` before it.
+    fn again(&mut self, back: usize, count: u32) {
+        for _ in 0..count {
+            if let Some(at) = self.out.len().checked_sub(back) {
+                self.put(byte_at(self.bytes(), at));
+            }
+        }
+    }
+
+    // The tag of the field that ends here, one higher.
+    fn raise(&mut self) {
+        if let Some(at) = self.out.len().checked_sub(6) {
+            let tag = u16_at(self.bytes(), at);
+            self.set_number(at, tag.saturating_add(1));
+        }
+    }
+
+    // So many fields more, the tag one higher each time.
+    fn run(&mut self, count: u16) {
+        for _ in 0..count {
+            self.again(10, 10);
+            self.raise();
+        }
+    }
+
+    // A record with the length 0 so far; its kind is 1 for a field, 2 for a message, 3 for a group.
+    fn begin(&mut self, kind: u16) {
+        self.open = Some(self.out.len());
+        self.put_number(0);
+        self.put_number(kind);
+    }
+
+    fn mark(&mut self, b: u8) {
         match b {
-            b'0'..=b'9' => {
-                self.word = NUMBER;
-                self.number = digit(b);
-                self
-            }
-            b'f' => self.begin(1, out),
-            b'm' => self.begin(2, out),
-            b'g' => self.begin(3, out),
-            b'.' => {
-                self.open = false;
-                self
-            }
-            b'x' => {
-                self.word = HEX;
-                self
-            }
-            b'*' => {
-                self.word = AGAIN;
-                self
-            }
-            b'+' => {
-                self.open = false;
-                self.word = RUN;
-                self
-            }
-            _ => {
-                self.word = TEXT;
-                self.text(b, out)
-            }
+            b'f' => self.begin(1),
+            b'm' => self.begin(2),
+            b'g' => self.begin(3),
+            _ => self.open = None,
         }
     }
 
-    pub fn word_byte(mut self, b: u8, out: &mut [u8]) -> Pen {
-        let w = self.word;
-        match w {
-            NONE => self.first(b, out),
-            TEXT => self.text(b, out),
-            HEX => self.hex(b, out),
-            _ => {
-                self.number = further(self.number, b);
-                self
+    // `f`, `m`, `g` and `.` need no space behind them.
+    fn word(&mut self, word: &[u8]) {
+        let marks = word
+            .iter()
+            .take_while(|b| matches!(b, b'f' | b'm' | b'g' | b'.'))
+            .count();
+        let (marks, rest) = word.split_at(marks);
+        for &b in marks {
+            self.mark(b);
+        }
+        match rest {
+            [b'0'..=b'9', ..] => self.put_number(number(rest)),
+            [b'x', digits @ ..] => self.hex(digits),
+            [b'*', digits @ ..] => self.again(4, u32::from(number(digits)) * 4),
+            [b'+', digits @ ..] => {
+                self.open = None;
+                self.run(number(digits));
             }
+            _ => self.text(rest, b'_', 0),
         }
     }
 
     // The length of the open record, as it is so far.
-    fn counted(self, out: &mut [u8]) -> Pen {
-        if self.open {
-            put_number(out, self.start, behind(self.start, self.at));
+    fn count(&mut self) {
+        if let Some(start) = self.open {
+            let behind = self.out.len().saturating_sub(start).saturating_sub(2);
+            self.set_number(start, behind as u16);
         }
-        self
     }
 
-    pub fn ended(mut self, out: &mut [u8]) -> Pen {
-        self.at = ended(out, self.at, self.word, self.number);
-        self.word = NONE;
-        self.number = 0;
-        self.counted(out)
+    // The words of a book. The first may go on with a number that the label has begun.
+    pub fn words(&mut self, words: &[u8], in_number: bool) {
+        for (i, word) in words.split(|b| *b == b' ').enumerate() {
+            if in_number && i == 0 {
+                self.put_number(number(word));
+            } else {
+                self.word(word);
+            }
+            self.count();
+        }
     }
 }
