@@ -1,6 +1,6 @@
 pub mod Walk
 pub mod Look
 pub mod Members
-pub mod Columns
+pub mod Texts
 pub mod RuleLaws
 pub mod Checks

@@ -1,96 +1,58 @@
 -- Laws of looking for a record. Assumes nothing.
-use mathlib.Core.Path.{◌≡◌, refl, sym, ap, ◌∙◌}
-use mathlib.Core.Bool.{Bool, true, false, cond, and-true, and-false}
-use mathlib.Core.List.{List, [], ◌∷◌, ◌++◌, append-nil}
-use Prim.Native.Nat.{ℕ, suc, ◌+◌, ◌-◌, ◌≤◌, ◌<◌, zero-le}
+use mathlib.Core.Path.{◌≡◌, refl, ap, ◌∙◌}
+use mathlib.Core.Bool.{Bool, true, false, cond}
+use mathlib.Core.List.{List, [], ◌∷◌}
+use Prim.Native.Nat.{ℕ, ◌+◌, ◌≤◌}
 use native.Mathlib.Omega.{arith}
-use native.Mathlib.Numerals.{add-one}
-use borrow.Author.Tests.{eq-eqb, ne_eqb}
-use lib.Dec.{eqb}
-use lib.ListN.{length, take, drop, get_or, drop_of_length-le}
-use lib.Seq.{take-suc, take_all, drop-cons}
-use Rattle.numbers.specs.Bytes.{le16, same}
-use Rattle.numbers.proofs.Parts.{rest}
-use Rattle.book.specs.Records.{size, walk, kind_of, Record, record_at, records, is_kind, is_message, type_text, nothing, found, look_up}
-use Rattle.book.proofs.Walk.{walk_end, walk_turn, within}
+use lib.ListN.{length, drop, length-drop}
+use lib.Seq.{drop-drop}
+use borrow.Author.Tests.{ne_eqb}
+use Rattle.std.specs.Prelude.{Option, Some, None}
+use Rattle.std.specs.Option.{option_map}
+use Rattle.std.specs.List.{find}
+use Rattle.book.specs.Records.{size, walk, Record, record_at, records, LookUp, nothing, found, look_up}
+use Rattle.book.specs.declared.records.Record as Code
+use Rattle.book.specs.Walked.{record_in}
+use Rattle.book.specs.Answers.{found_in}
+use Rattle.book.proofs.Walk.{walk_law, size_fits}
 
 -- the records from an offset on
 abbrev pub records_at : ℕ → List ℕ → List Record
 records_at at s = walk (λ at. []) (λ at r rs. record_at at r ∷ rs) at s
 
-pub records_is : (s : List ℕ) → records s ≡ records_at 0 s
+pub records_is : (s : List ℕ) → records_at 0 s ≡ records s
 unfolding records
 records_is s = refl
 
--- the loop that looks for p
-abbrev pub Looking : (Record → Bool) → List ℕ → ℕ → Type 0
-Looking p s at = (at ≤ length s) × (look_up p (records s) ≡ look_up p (records_at at (drop at s)))
+module _ (b : List ℕ) (at : ℕ) where
+  pub no_record : size (drop at b) ≡ 0 → records_at at (drop at b) ≡ []
+  no_record z = walk_law (λ at. []) (λ at r rs. record_at at r ∷ rs) at (drop at b) ∙ rw z
 
-pub look_start : (p : Record → Bool) (s : List ℕ) → Looking p s 0
-look_start p s = (zero-le, ap (look_up p) (records_is s))
+  pub next_record : (n : ℕ) → size (drop at b) ≡ n → 2 ≤ n → records_at at (drop at b) ≡ record_at at (drop at b) ∷ records_at (at + n) (drop (at + n) b)
+  next_record n e h =
+      walk_law (λ at. []) (λ at r rs. record_at at r ∷ rs) at (drop at b)
+      ∙ rw (e, ne_eqb n 0 (λ z. omega (arith, z, h)), drop-drop)
 
-module _ (p : Record → Bool) (s : List ℕ) (at n : ℕ) (inv : Looking p s at) (e : n ≡ size (take (length s - at) (drop at s))) where
-  pub look_none : n ≡ 0 → nothing ≡ look_up p (records s)
-  unfolding look_up
-  look_none z = sym (inv.1 ∙ ap (look_up p) (walk_end s at n e (λ at. []) (λ at r rs. record_at at r ∷ rs) z))
+  pub next_fits : (n : ℕ) → size (drop at b) ≡ n → 2 ≤ n → at + n ≤ length b
+  next_fits n e h = omega (arith, e, h, size_fits (drop at b), length-drop at b)
 
-  module _ (z : n ≡ 0 → ⊥) (r : Bool) (h : (b : ℕ) → r ≡ p (record_at b (take (length s - at) (drop at s)))) where
-    head : p (record_at at (drop at s)) ≡ r
-    head = sym (rw (rest s at) at (h at))
+-- what `find` answers
+pub found_is : (p : Record → Bool) (B : List Record) (r : Option Code.Record) → option_map record_in r ≡ find p B → found_in r ≡ look_up p B
+unfolding look_up
+found_is p B r e = told r ∙ ap looked e ∙ go B
+  where
+    looked : Option Record → LookUp
+    looked None = nothing
+    looked (Some r) = found r
 
-    step : look_up p (records s) ≡ cond r (found (record_at at (drop at s))) (look_up p (records_at (at + n) (drop (at + n) s)))
-    unfolding look_up
-    step = inv.1 ∙ ap (look_up p) (walk_turn s at n e (λ at. []) (λ at r rs. record_at at r ∷ rs) z) ∙ rw head
+    told : (r : Option Code.Record) → found_in r ≡ looked (option_map record_in r)
+    told None = refl
+    told (Some r) = refl
 
-    pub look_hit : r ≡ true → found (record_at at (drop at s)) ≡ look_up p (records s)
-    look_hit q = sym (step ∙ rw q)
+    turn : (t : Bool) (r : Record) (B : List Record) → looked (find p B) ≡ look_up p B → looked (cond t (Some r) (find p B)) ≡ cond t (found r) (look_up p B)
+    turn true r B e = refl
+    turn false r B e = e
 
-    pub look_turn : r ≡ false → Looking p s (at + n)
-    look_turn q = (within s at n e inv.0, step ∙ rw q)
-
--- columns of a record, by what the code reads
-module _ (s : List ℕ) (k t y : ℕ) (e : y ≡ le16 (drop 4 s)) (at : ℕ) where
-  pub other_tag : (y ≡ t → ⊥) → false ≡ is_kind k t (record_at at s)
-  unfolding record_at
-  other_tag n = sym (rw (← e, ne_eqb y t n) (and-false (eqb (kind_of (le16 s) (le16 (drop 2 s))) k)))
-
-  pub is_kind_lem : y ≡ t → (x : ℕ) → x ≡ kind_of (le16 s) (le16 (drop 2 s)) → eqb x k ≡ is_kind k t (record_at at s)
-  unfolding record_at
-  is_kind_lem z x p = rw (← e, eq-eqb y t z, ← p) (sym (and-true (eqb x k)))
-
-module _ (s w x : List ℕ) (k : ℕ) (e : k ≡ kind_of (le16 s) (le16 (drop 2 s))) (at : ℕ) where
-  pub no_message : (k ≡ 2 → ⊥) → false ≡ is_message x (record_at at s)
-  unfolding record_at
-  no_message n = rw (← e, ne_eqb k 2 n)
-
-  pub is_message_lem : k ≡ 2 → (r : Bool) (u : List ℕ) → w ≡ take 4 (drop 4 s) → u ≡ type_text w → r ≡ same u x → r ≡ is_message x (record_at at s)
-  unfolding record_at
-  is_message_lem z r u p q h = h ∙ rw (← e, eq-eqb k 2 z, q, p)
-
--- the loop that finds a type text's end
-abbrev pub Texting : List ℕ → ℕ → Type 0
-Texting w i = (i ≤ length w) × (type_text w ≡ take i w ++ type_text (drop i w))
-
-pub text_start : (w : List ℕ) → Texting w 0
-text_start w = (zero-le, refl)
-
-snoc : (a : List ℕ) (x : ℕ) (b : List ℕ) → a ++ (x ∷ b) ≡ (a ++ (x ∷ [])) ++ b
-snoc [] x b = refl
-snoc (y ∷ a) x b = ap (λ l. y ∷ l) (snoc a x b)
-
-module _ (w : List ℕ) (i : ℕ) (inv : Texting w i) where
-  module _ (h : i < length w) where
-    pub text_zero : get_or w i 0 ≡ 0 → take (i - 0) w ≡ type_text w
-    unfolding type_text
-    text_zero z =
-        let e : i - 0 ≡ i = omega arith in
-        sym (inv.1 ∙ rw (drop-cons w i 0 h, z, e) (append-nil (take i w)))
-
-    pub text_turn : (get_or w i 0 ≡ 0 → ⊥) → Texting w (i + 1)
-    unfolding type_text
-    text_turn n =
-        (omega (arith, h), inv.1 ∙ rw (add-one, drop-cons w i 0 h, take-suc w i 0 h, ne_eqb (get_or w i 0) 0 n) (snoc (take i w) (get_or w i 0) (type_text (drop (suc i) w))))
-
-  pub text_end : length w ≤ i → w ≡ type_text w
-  unfolding type_text
-  text_end h = sym (inv.1 ∙ rw (drop_of_length-le w h, take_all i w h) (append-nil w))
+    go : (B : List Record) → looked (find p B) ≡ look_up p B
+    go [] = refl
+    go (r ∷ B) = turn (p r) r B (go B)

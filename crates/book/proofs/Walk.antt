@@ -1,17 +1,17 @@
--- The walk over records: the law that removes its bound, and the laws of one record. Assumes nothing.
+-- The walk over records: the law that removes its bound, and what a record's size says. Assumes nothing.
 use mathlib.Core.Path.{◌≡◌, refl, sym, ap, ◌∙◌}
 use mathlib.Core.Bool.{Bool, true, false, cond, ◌&&◌}
-use mathlib.Core.List.{List, []}
-use Prim.Native.Nat.{ℕ, zero, suc, ◌+◌, ◌-◌, ◌%◌, ◌≤◌, ◌<◌, zero-le}
+use mathlib.Core.List.{List}
+use Prim.Native.Nat.{ℕ, zero, suc, ◌+◌, ◌-◌, ◌≤◌, zero-le}
 use native.Mathlib.Omega.{arith}
-use borrow.Author.Tests.{eq-eqb, ne_eqb, eqb-false, leb-true, lt-leb, le-leb}
+use borrow.Author.Tests.{eq-eqb, ne_eqb, eqb-false, leb-true}
 use lib.Dec.{eqb, leb}
 use lib.ListN.{length, take, drop, length-drop}
 use lib.Seq.{drop-drop}
 use Rattle.numbers.specs.Bytes.{le16}
 use Rattle.numbers.proofs.Parts.{rest}
 use Rattle.numbers.proofs.Tests.{and_left, and_right}
-use Rattle.book.specs.Records.{size, walk_from, walk, stop, kind_of, member_bytes}
+use Rattle.book.specs.Records.{size, walk_from, walk, stop}
 
 cond_le : (a b : Bool) (n m : ℕ) → (b ≡ true → n ≤ m) → cond (a && b) n 0 ≤ m
 cond_le true true n m h = h refl
@@ -21,24 +21,6 @@ cond_le false b n m h = zero-le
 pub size_fits : (s : List ℕ) → size s ≤ length s
 unfolding size
 size_fits s = cond_le (leb 2 (length s) && leb 2 (le16 s)) (leb (2 + le16 s) (length s)) (2 + le16 s) (length s) (leb-true _ _)
-
--- n is the length that the code has read
-pub size_short : (s : List ℕ) → length s < 2 → 0 ≡ size s
-unfolding size
-size_short s h = rw (lt-leb 2 (length s) h)
-
-module _ (s : List ℕ) (n : ℕ) (e : n ≡ le16 s) (h : 2 ≤ length s) where
-  pub size_low : n < 2 → 0 ≡ size s
-  unfolding size
-  size_low l = rw (le-leb 2 (length s) h, lt-leb 2 (le16 s) (omega (arith, e, l)))
-
-  pub size_over : 2 ≤ n → length s < 2 + n → 0 ≡ size s
-  unfolding size
-  size_over l o = rw (le-leb 2 (length s) h, le-leb 2 (le16 s) (omega (arith, e, l)), lt-leb (2 + le16 s) (length s) (omega (arith, e, o)))
-
-  pub size_whole : 2 ≤ n → 2 + n ≤ length s → 2 + n ≡ size s
-  unfolding size
-  size_whole l o = rw (le-leb 2 (length s) h, le-leb 2 (le16 s) (omega (arith, e, l)), le-leb (2 + le16 s) (length s) (omega (arith, e, o))) (omega (arith, e))
 
 cond_true : (b : Bool) (n : ℕ) → (cond b n 0 ≡ 0 → ⊥) → b ≡ true
 cond_true true n h = refl
@@ -115,32 +97,3 @@ module _ (s : List ℕ) (at n : ℕ) (inv : StopSofar s at) (e : n ≡ size (tak
 
   pub stop_turn : (n ≡ 0 → ⊥) → StopSofar s (at + n)
   stop_turn z = (within s at n e inv.0, inv.1 ∙ walk_turn s at n e (λ at. at) (λ at r n. n) z)
-
--- the kinds, by the tests that the code makes
-module _ (n k : ℕ) where
-  pub kind_1 : (eqb k 1 && eqb n 8) ≡ true → 1 ≡ kind_of n k
-  unfolding kind_of
-  kind_1 a = rw a
-
-  pub kind_2 : (eqb k 1 && eqb n 8) ≡ false → (eqb k 2 && leb 6 n && eqb (n % 4) 2) ≡ true → 2 ≡ kind_of n k
-  unfolding kind_of
-  kind_2 a b = rw (a, b)
-
-  pub kind_3 : (eqb k 1 && eqb n 8) ≡ false → (eqb k 2 && leb 6 n && eqb (n % 4) 2) ≡ false → (eqb k 3 && leb 8 n && eqb (n % 4) 0) ≡ true → 3 ≡ kind_of n k
-  unfolding kind_of
-  kind_3 a b c = rw (a, b, c)
-
-  pub kind_0 : (eqb k 1 && eqb n 8) ≡ false → (eqb k 2 && leb 6 n && eqb (n % 4) 2) ≡ false → (eqb k 3 && leb 8 n && eqb (n % 4) 0) ≡ false → 0 ≡ kind_of n k
-  unfolding kind_of
-  kind_0 a b c = rw (a, b, c)
-
--- the members' bytes; v is the part that the code hands back
-module _ (s v : List ℕ) (n k : ℕ) (en : n ≡ le16 s) (ek : k ≡ le16 (drop 2 s)) where
-  pub bytes_message : k ≡ 2 → v ≡ take (n - 6) (drop 8 s) → v ≡ member_bytes (le16 s) (le16 (drop 2 s)) s
-  bytes_message z e = e ∙ rw (← ek, eq-eqb k 2 z, ← en)
-
-  pub bytes_group : (k ≡ 2 → ⊥) → v ≡ take (n - 4) (drop 6 s) → v ≡ member_bytes (le16 s) (le16 (drop 2 s)) s
-  bytes_group z e = e ∙ rw (← ek, ne_eqb k 2 z, ← en)
-
-pub none_taken : (s : List ℕ) (n m : ℕ) → n < m → [] ≡ take (n - m) s
-none_taken s n m h = let e : n - m ≡ 0 = omega arith in rw e

@@ -1,24 +1,50 @@
--- What the code's enums and maps say, in the definitions' words. Assumes nothing.
-use Rattle.std.specs.Prelude.{◌≡◌, Bool, true, false, cond, ◌&&◌, ◌||◌, ℕ, ◌<◌, List, eqb, length, drop, get_or}
+-- What the code's answers and maps say, in the definitions' words. Assumes nothing.
+use Rattle.std.specs.Prelude.{◌≡◌, Bool, true, false, ◌&&◌, ℕ, ◌<◌, List, eqb, length, get_or, Option, Some, None, Result, Ok, Err}
 use Rattle.numbers.specs.Bytes.{mem}
-use Rattle.numbers.specs.Bits.{bit_at, marked}
-use Rattle.book.specs.declared.Found.{Found}
-use Rattle.book.specs.declared.Found.TheVariants.{At, Nothing}
-use Rattle.book.specs.declared.Verdict as Code
-use Rattle.book.specs.declared.Verdict.TheVariants.{Sound, Broken}
-use Rattle.book.specs.Records.{Record, record_at, is_field, LookUp, nothing, found, look_up, is_found, is_length, is_bounded}
+use Rattle.numbers.specs.Bits.{bit_at}
+use Rattle.book.specs.declared.Declared.{Declared}
+use Rattle.book.specs.declared.records.Record as Code
+use Rattle.book.specs.declared.checking.Rule.{Rule}
+use Rattle.book.specs.declared.checking.Rule.TheVariants.{R1, R2, R3, R4, R5, R6, R7, R8, R9}
+use Rattle.book.specs.declared.checking.Broken.{Broken}
+use Rattle.book.specs.Records.{Record, is_field, LookUp, nothing, found, look_up, is_found, is_length, is_bounded}
 use Rattle.book.specs.Rules.{Opened, once, conflict}
 use Rattle.book.specs.Check.{Verdict, sound, broken}
+use Rattle.book.specs.Walked.{record_in}
 
--- the record at that offset of the book
-abbrev pub found_in : List ℕ → Found → LookUp
-found_in book (At at) = found (record_at at (drop at book))
-found_in book Nothing = nothing
+-- what a look-up finds
+abbrev pub found_in : Option Code.Record → LookUp
+found_in None = nothing
+found_in (Some r) = found (record_in r)
+
+-- what a tag is declared as: datatype, 0 for none, and partner
+abbrev pub type_told : Option Declared → ℕ
+type_told None = 0
+type_told (Some d) = d.datatype
+
+abbrev pub partner_told : Option Declared → ℕ
+partner_told None = 0
+partner_told (Some d) = d.partner
+
+abbrev pub is_told : Option Declared → Bool
+is_told None = false
+is_told (Some d) = true
+
+abbrev pub rule_number : Rule → ℕ
+rule_number R1 = 1
+rule_number R2 = 2
+rule_number R3 = 3
+rule_number R4 = 4
+rule_number R5 = 5
+rule_number R6 = 6
+rule_number R7 = 7
+rule_number R8 = 8
+rule_number R9 = 9
 
 -- document 01's rule and offset of each case
-abbrev pub told : Code.Verdict → Verdict
-told Sound = sound
-told (Broken n at) = broken n at
+abbrev pub told : Result (Unit {0}) Broken → Verdict
+told (Ok u) = sound
+told (Err e) = broken (rule_number e.rule) e.offset
 
 -- a map that holds the declared tags
 abbrev pub Declares : List ℕ → List Record → Type 0
@@ -28,19 +54,9 @@ Declares map B = (t : ℕ) → t < 65536 → bit_at map t ≡ is_found (look_up 
 abbrev pub Pairs : List ℕ → List Record → Type 0
 Pairs map B = (t : ℕ) → t < 65536 → bit_at map t ≡ false → (is_length B t ≡ false) × (is_bounded B t ≡ false)
 
--- what a rule of that number asks of the map
-abbrev pub Prepared : ℕ → List ℕ → List Record → Type 0
-Prepared n map B = (n ≡ 5 → Declares map B) × (n ≡ 6 → Pairs map B)
-
--- a field record whose tag is marked: every one, or a Length's or a data's alone
-abbrev pub marks : Bool → Record → Bool
-marks all r = eqb r.kind 1 && (all || eqb r.type 5 || eqb r.type 10)
-
-abbrev pub Marked : Bool → Record → List ℕ → List ℕ → Type 0
-Marked all r map after = (after ≡ cond (marks all r) (marked map r.tag) map) × (marks all r ≡ true → r.tag < 65536)
-
-abbrev pub is_marked : Bool → ℕ → Record → Bool
-is_marked all t r = marks all r && eqb r.tag t
+-- a field record of that tag, of a datatype that is picked
+abbrev pub is_marked : (ℕ → Bool) → ℕ → Record → Bool
+is_marked picks t r = eqb r.kind 1 && picks r.type && eqb r.tag t
 
 -- a map of 8,192 bytes that holds just these tags
 pub record Seen (map seen : List ℕ) : Type 0 where

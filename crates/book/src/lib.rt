@@ -1,30 +1,30 @@
 // The book: its records, what they declare, and the check.
 #![tactic(auto)]
 
+ghost use Rattle.std.specs.Prelude.{◌≡◌, eqb};
+ghost use Rattle.forms.specs.Numbered.{number_of};
+
+use forms::Datatype;
+
 mod checking;
+pub mod list;
 pub mod lookup;
 pub mod records;
 mod rules;
 
-pub use checking::check;
+pub use checking::{Broken, Rule, check};
 
-// The lowest rule broken, and the offset of the first record that breaks it.
-#[derive(Clone, Copy)]
-pub enum Verdict {
-    Sound,
-    Broken(u16, usize),
-}
-
-// What a tag is declared as; datatype 0 for none.
-#[derive(Clone, Copy)]
+// What a tag is declared as, in the book's numbers.
+#[derive(Clone, Copy, Debug, PartialEq, Eq)]
 pub struct Declared {
     pub datatype: u16,
     pub partner: u16,
 }
 
-// The first record that was looked for.
-#[derive(Clone, Copy)]
-pub enum Found {
-    At(usize),
-    Nothing,
+impl Declared {
+    pub fn is(self, t: Datatype) -> bool
+        ensures { result ≡ eqb self.datatype (number_of t) }
+    {
+        self.datatype == u16::from(t)
+    }
 }

@@ -1,145 +1,99 @@
 // What the book declares: total on any bytes, the first declaration wins.
-ghost use Rattle.std.specs.Prelude.{◌≡◌, ℕ, drop};
-ghost use Rattle.book.specs.Records.{members_of, type_text, is_kind, is_group, is_message, record_at, is_found, members_in, look_up, type_of, partner, group_of, message_of, place_in, records};
-ghost use Rattle.book.specs.Answers.{found_in};
+ghost use Rattle.std.specs.Prelude.{◌≡◌, ℕ};
+ghost use Rattle.book.specs.Records.{members_of, type_text, is_count, is_kind, is_field, is_group, is_message, is_found, members_in, look_up, type_of, partner, group_of, message_of, place_in, records};
+ghost use Rattle.book.specs.Walked.{kind_number, record_in};
+ghost use Rattle.book.specs.Answers.{found_in, type_told, partner_told, is_told};
 
-use crate::records::{record_kind, record_members, record_size};
-use crate::{Declared, Found};
-use numbers::{part, rest, same_bytes, u16_at};
-
-// The tag first: it decides nearly every step of a scan.
-fn is_kind(s: &[u8], kind: u16, tag: u16) -> bool
-    ensures { (at : ℕ) → result ≡ is_kind kind tag (record_at at s.now) }
-{
-    if u16_at(s, 4) != tag {
-        return false;
-    }
-    record_kind(s) == kind
-}
+use crate::Declared;
+use crate::list::Members;
+use crate::records::{Kind, Record, Records};
+use forms::Datatype;
 
 // The first record of that kind and tag.
-pub fn find_record(book: &[u8], kind: u16, tag: u16) -> Found
-    ensures { found_in book.now result ≡ look_up (is_kind kind tag) (records book.now) }
+pub(crate) fn find_of<'a>(book: &'a [u8], kind: Kind, tag: u16) -> Option<Record<'a>>
+    ensures { found_in result ≡ look_up (is_kind (kind_number kind) tag) (records book.now) }
 {
-    let mut at = 0;
-    loop {
-        let n = record_size(&book[at..]);
-        if n == 0 {
-            return Found::Nothing;
-        }
-        if is_kind(&book[at..], kind, tag) {
-            return Found::At(at);
-        }
-        at += n;
-    }
+    Records::of(book).find(|r| r.is_tagged(kind, tag))
+}
+
+// The same of a kind's number, 0 for a record of no kind.
+// kept: find_record is public and answers for every number, where a Kind asks more of a caller.
+pub fn find_record<'a>(book: &'a [u8], kind: u16, tag: u16) -> Option<Record<'a>>
+    ensures { found_in result ≡ look_up (is_kind kind tag) (records book.now) }
+{
+    Records::of(book).find(|r| r.tag() == tag && r.number() == kind)
 }
 
 // A type text without the zeros that fill it up.
 pub fn type_text<'a>(w: &'a [u8]) -> &'a [u8]
     ensures { result.now ≡ type_text w.now }
 {
-    let mut i = 0;
-    while i < w.len() {
-        if w[i] == 0 {
-            return &w[0..i];
-        }
-        i += 1;
-    }
-    w
+    &w[..w.iter().position(|b| *b == 0).unwrap_or(w.len())]
 }
 
-fn is_message(s: &[u8], text: &[u8]) -> bool
-    ensures { (at : ℕ) → result ≡ is_message text.now (record_at at s.now) }
+#[tactic(auto, using(numbers::proofs::Same::same_is_eq))]
+fn is_message(r: Record, text: &[u8]) -> bool
+    ensures { result ≡ is_message text.now (record_in r.entry) }
 {
-    if record_kind(s) != 2 {
-        return false;
-    }
-    same_bytes(type_text(part(s, 4, 4)), text)
+    r.is(Kind::Message) && type_text(r.text()) == text
 }
 
 // The first message of that type text.
-pub fn find_message(book: &[u8], text: &[u8]) -> Found
-    ensures { found_in book.now result ≡ look_up (is_message text.now) (records book.now) }
+pub fn find_message<'a>(book: &'a [u8], text: &[u8]) -> Option<Record<'a>>
+    ensures { found_in result ≡ look_up (is_message text.now) (records book.now) }
 {
-    let mut at = 0;
-    loop {
-        let n = record_size(&book[at..]);
-        if n == 0 {
-            return Found::Nothing;
-        }
-        if is_message(&book[at..], text) {
-            return Found::At(at);
-        }
-        at += n;
-    }
+    Records::of(book).find(|r| is_message(*r, text))
 }
 
-pub fn declared(book: &[u8], tag: u16) -> Declared
-    ensures { (result.datatype ≡ type_of (records book.now) tag) × (result.partner ≡ partner (records book.now) tag) }
+#[tactic(auto, unfolding(crate::specs::Records::type_of, crate::specs::Records::partner))]
+pub fn declared(book: &[u8], tag: u16) -> Option<Declared>
+    ensures datatype { type_told result ≡ type_of (records book.now) tag }
+    ensures partner { partner_told result ≡ partner (records book.now) tag }
+    ensures found { is_told result ≡ is_found (look_up (is_field tag) (records book.now)) }
 {
-    let Found::At(at) = find_record(book, 1, tag) else {
-        return Declared {
-            datatype: 0,
-            partner: 0,
-        };
-    };
-    let s = rest(book, at);
-    Declared {
-        datatype: u16_at(s, 6),
-        partner: u16_at(s, 8),
-    }
+    find_of(book, Kind::Field, tag).map(|r| r.declares())
+}
+
+pub(crate) fn is_count(book: &[u8], tag: u16) -> bool
+    ensures { result ≡ is_count (records book.now) tag }
+{
+    declared(book, tag).is_some_and(|d| d.is(Datatype::NumInGroup))
 }
 
 pub fn has_group(book: &[u8], tag: u16) -> bool
     ensures { result ≡ is_found (look_up (is_group tag) (records book.now)) }
 {
-    let Found::At(at) = find_record(book, 3, tag) else {
-        return false;
-    };
-    true
+    find_of(book, Kind::Group, tag).is_some()
 }
 
 // The bytes of the members of a count's group.
+#[tactic(auto, unfolding(crate::specs::Records::group_of, crate::specs::Records::members_of))]
 pub fn group_list<'a>(book: &'a [u8], tag: u16) -> &'a [u8]
     ensures { members_of result.now ≡ group_of (records book.now) tag }
 {
-    let Found::At(at) = find_record(book, 3, tag) else {
-        return &book[0..0];
-    };
-    record_members(rest(book, at))
+    find_of(book, Kind::Group, tag).map_or(&[], |r| r.list())
 }
 
+#[tactic(auto, unfolding(crate::specs::Records::message_of))]
 pub fn has_message(book: &[u8], text: &[u8]) -> bool
     ensures { result ≡ is_found (message_of (records book.now) text.now) }
 {
-    let Found::At(at) = find_message(book, text) else {
-        return false;
-    };
-    true
+    find_message(book, text).is_some()
 }
 
 // The bytes of the members of a message's own list.
+#[tactic(auto, unfolding(crate::specs::Records::message_of, crate::specs::Records::members_of))]
 pub fn message_list<'a>(book: &'a [u8], text: &[u8]) -> &'a [u8]
     ensures { members_of result.now ≡ members_in (message_of (records book.now) text.now) }
 {
-    let Found::At(at) = find_message(book, text) else {
-        return &book[0..0];
-    };
-    record_members(rest(book, at))
+    find_message(book, text).map_or(&[], |r| r.list())
 }
 
 // The place of a tag in a list of members' bytes.
 pub fn place_in(list: &[u8], tag: u16) -> usize
     ensures { result ≡ place_in (members_of list.now) tag }
 {
-    let mut i = 0;
-    let mut k = 0;
-    while 4 <= list.len() - i {
-        if u16_at(list, i) == tag {
-            return k;
-        }
-        i += 4;
-        k += 1;
-    }
-    k
+    Members::of(list)
+        .position(|m| m.tag == tag)
+        .unwrap_or(list.len() / 4)
 }

@@ -1,63 +1,159 @@
-// One record at the head of a slice.
-ghost use Rattle.std.specs.Prelude.{◌≡◌, drop};
+// The records of a book, and what each of them holds.
+ghost use Rattle.std.specs.Prelude.{◌≡◌, ◌≤◌, ℕ, MatchOption, eqb, drop};
+ghost use Rattle.std.specs.Iterator.{YieldsFirstBy, item_count};
 ghost use Rattle.numbers.specs.Bytes.{le16};
-ghost use Rattle.book.specs.Records.{size, stop, kind_of, member_bytes};
+ghost use Rattle.book.specs.Records.{size, stop, kind_of, member_bytes, members_of, records, is_kind};
+ghost use Rattle.book.specs.Walked.{kind_number, kind_in, record_in, records_left};
 
-use numbers::{part, u16_at};
+use crate::Declared;
+use numbers::{part, rest, u16_at};
 
-// The bytes that the record takes; 0 where none stands there whole.
-pub fn record_size(s: &[u8]) -> usize
-    ensures { result ≡ size s.now }
-{
-    if s.len() < 2 {
-        return 0;
-    }
-    let n = u16_at(s, 0) as usize;
-    if n < 2 {
-        return 0;
-    }
-    if s.len() < 2 + n {
-        return 0;
-    }
-    2 + n
+// The kinds of records, each with its number in the book.
+#[derive(Clone, Copy, Debug, PartialEq, Eq)]
+pub enum Kind {
+    Field = 1,
+    Message = 2,
+    Group = 3,
 }
 
-fn kind_of(n: u16, k: u16) -> u16
-    ensures { result ≡ kind_of n k }
-{
-    if (k == 1) & (n == 8) {
-        return 1;
-    }
-    if (k == 2) & (6 <= n) & (n % 4 == 2) {
-        return 2;
-    }
-    if (k == 3) & (8 <= n) & (n % 4 == 0) {
-        return 3;
-    }
-    0
+// A record: its offset, and the book's bytes from there on.
+#[derive(Clone, Copy, Debug)]
+pub struct Record<'a> {
+    pub offset: usize,
+    pub(crate) bytes: &'a [u8],
 }
 
-pub fn record_kind(s: &[u8]) -> u16
-    ensures { result ≡ kind_of (le16 s.now) (le16 (drop 2 s.now)) }
+// The bytes that the record at the head takes, where one stands there whole.
+#[tactic(auto, unfolding(crate::specs::Records::size))]
+pub fn record_size(s: &[u8]) -> Option<usize>
+    ensures { MatchOption result (size s.now ≡ 0) (λ n. (size s.now ≡ n) × (2 ≤ n)) }
+{
+    let n = usize::from(u16_at(s, 0));
+    if 2 <= n && 2 + n <= s.len() {
+        return Some(2 + n);
+    }
+    None
+}
+
+#[tactic(auto, unfolding(crate::specs::Records::kind_of))]
+fn kind_of(n: u16, k: u16) -> Option<Kind>
+    ensures { kind_in result ≡ kind_of n k }
+{
+    match k {
+        1 if n == 8 => Some(Kind::Field),
+        2 if 6 <= n && n % 4 == 2 => Some(Kind::Message),
+        3 if 8 <= n && n % 4 == 0 => Some(Kind::Group),
+        _ => None,
+    }
+}
+
+// The kind of the record at the head, None for another kind or for a length that its kind does not have.
+pub fn record_kind(s: &[u8]) -> Option<Kind>
+    ensures { kind_in result ≡ kind_of (le16 s.now) (le16 (drop 2 s.now)) }
 {
     kind_of(u16_at(s, 0), u16_at(s, 2))
 }
 
-// The bytes of its members.
+// The bytes of the members of the record at the head.
 pub fn record_members<'a>(s: &'a [u8]) -> &'a [u8]
     ensures { result.now ≡ member_bytes (le16 s.now) (le16 (drop 2 s.now)) s.now }
 {
-    let n = u16_at(s, 0) as usize;
+    let n = usize::from(u16_at(s, 0));
     if u16_at(s, 2) == 2 {
-        if n < 6 {
-            return &s[0..0];
+        return part(s, 8, n.saturating_sub(6));
+    }
+    part(s, 6, n.saturating_sub(4))
+}
+
+#[tactic(auto, unfolding(crate::specs::Records::record_at))]
+impl<'a> Record<'a> {
+    pub(crate) fn kind(self) -> Option<Kind>
+        ensures { kind_in result ≡ (record_in self.entry).kind }
+    {
+        record_kind(self.bytes)
+    }
+
+    // The kind's number in the book, 0 for none.
+    pub(crate) fn number(self) -> u16
+        ensures { result ≡ (record_in self.entry).kind }
+    {
+        self.kind().map_or(0, |kind| kind as u16)
+    }
+
+    pub(crate) fn is(self, kind: Kind) -> bool
+        ensures { result ≡ eqb (record_in self.entry).kind (kind_number kind) }
+    {
+        self.kind() == Some(kind)
+    }
+
+    pub(crate) fn tag(self) -> u16
+        ensures { result ≡ (record_in self.entry).tag }
+    {
+        u16_at(self.bytes, 4)
+    }
+
+    // The tag first: it decides nearly every step of a scan.
+    pub(crate) fn is_tagged(self, kind: Kind, tag: u16) -> bool
+        ensures { result ≡ is_kind (kind_number kind) tag (record_in self.entry) }
+    {
+        self.tag() == tag && self.is(kind)
+    }
+
+    pub(crate) fn declares(self) -> Declared
+        ensures { (result.datatype ≡ (record_in self.entry).type) × (result.partner ≡ (record_in self.entry).partner) }
+    {
+        Declared {
+            datatype: u16_at(self.bytes, 6),
+            partner: u16_at(self.bytes, 8),
         }
-        return part(s, 8, n - 6);
     }
-    if n < 4 {
-        return &s[0..0];
+
+    pub(crate) fn text(self) -> &'a [u8]
+        ensures { result.now ≡ (record_in self.entry).text }
+    {
+        part(self.bytes, 4, 4)
     }
-    part(s, 6, n - 4)
+
+    // The bytes of its members.
+    pub(crate) fn list(self) -> &'a [u8]
+        ensures { members_of result.now ≡ (record_in self.entry).members }
+    {
+        record_members(self.bytes)
+    }
+}
+
+// The records from an offset on.
+#[derive(Clone, Copy, Debug)]
+pub(crate) struct Records<'a> {
+    book: &'a [u8],
+    at: usize,
+}
+
+impl<'a> Records<'a> {
+    #[tactic(auto, unfolding(crate::specs::Records::records))]
+    pub(crate) fn of(book: &'a [u8]) -> Self
+        ensures { records_left result ≡ records book.now }
+    {
+        Records { book, at: 0 }
+    }
+}
+
+impl<'a> Iterator for Records<'a> {
+    type Item = Record<'a>;
+
+    ghost next_gives = { YieldsFirstBy record_in records_left };
+
+    ghost remaining = { item_count records_left };
+
+    #[tactic(auto, using(crate::proofs::Look::no_record, crate::proofs::Look::next_record))]
+    fn next(&mut self) -> Option<Record<'a>> {
+        let record = Record {
+            offset: self.at,
+            bytes: rest(self.book, self.at),
+        };
+        self.at += record_size(record.bytes)?;
+        Some(record)
+    }
 }
 
 // Rule 1: the offset at which no record can be taken.
@@ -65,11 +161,8 @@ pub fn first_bad_record(book: &[u8]) -> usize
     ensures { result ≡ stop book.now }
 {
     let mut at = 0;
-    loop {
-        let n = record_size(&book[at..]);
-        if n == 0 {
-            return at;
-        }
+    while let Some(n) = record_size(&book[at..]) {
         at += n;
     }
+    at
 }

@@ -1,248 +1,214 @@
-// Rules 2 to 8: whether the record at an offset breaks one. `map` holds a bit for each tag where a rule wants one.
-ghost use Rattle.std.specs.Prelude.{◌≡◌, cond, ◌&&◌, List, [], ◌∷◌, ℕ, leb, eqb, drop};
+// Rules 2 to 8: whether a record breaks one. A map holds a bit for each tag.
+ghost use Rattle.std.specs.Prelude.{◌≡◌, cond, ◌&&◌, List, [], ◌∷◌, ℕ, eqb};
 ghost use Rattle.numbers.specs.Bytes.{mem};
-ghost use Rattle.book.specs.Records.{members_of, record_at, records, type_of, partner, is_length, is_count, is_bounded, Record, is_group, look_up};
+ghost use Rattle.forms.specs.Numbered.{number_of};
+ghost use Rattle.book.specs.Records.{members_of, records, type_of, partner, is_length, is_count, is_bounded, is_group, look_up};
+ghost use Rattle.book.specs.Records as spec;
 ghost use Rattle.book.specs.Rules.{good_type_text, first_at, partnered, good_members, paired, starts_required, rule2, rule3, rule4, rule5, rule6, rule7, rule8};
-ghost use Rattle.book.specs.Answers.{found_in, Declares, Pairs};
+ghost use Rattle.book.specs.Walked.{record_in};
+ghost use Rattle.book.specs.Answers.{found_in, type_told, partner_told, Declares, Pairs};
 
-use crate::lookup::{declared, find_message, find_record, has_group, type_text};
-use crate::records::{record_kind, record_members};
-use crate::{Declared, Found};
+use crate::Declared;
+use crate::list::{Member, Members};
+use crate::lookup::{declared, find_message, find_of, has_group, is_count, type_text};
+use crate::records::{Kind, Record};
+use forms::Datatype;
 use numbers::bits::test;
-use numbers::{part, rest, u16_at};
+use numbers::rest;
 
-fn printable(b: u8) -> bool
-    ensures { result ≡ (leb 33 b && leb b 126) }
-{
-    (33 <= b) & (b <= 126)
-}
-
+// A type text: printable bytes, then zeros.
 fn good_type_text(w: &[u8]) -> bool
     ensures { result ≡ good_type_text w.now }
 {
-    if w.len() == 0 {
-        return false;
-    }
-    if !printable(w[0]) {
-        return false;
-    }
-    let mut ended = false;
-    let mut i = 1;
-    while i < w.len() {
-        let b = w[i];
-        let p = printable(b);
-        if !((p & !ended) | (b == 0)) {
-            return false;
-        }
-        ended = ended | !p;
-        i += 1;
-    }
-    true
+    let text = type_text(w);
+    let is_printable = text.iter().all(|b| b.is_ascii_graphic());
+    let is_filled = rest(w, text.len()).iter().all(|b| *b == 0);
+    !text.is_empty() & is_printable & is_filled
 }
 
-// Whether what was found is the record at that offset.
-fn is_first(f: Found, at: usize) -> bool
-    ensures { (book : List ℕ) → result ≡ first_at (found_in book f) at }
+// Whether what was found, if anything was, is this record.
+#[tactic(auto, unfolding(crate::specs::Records::record_at))]
+fn is_first(found: Option<Record>, r: Record) -> bool
+    ensures { result ≡ first_at (found_in found.entry) (record_in r.entry).offset }
 {
-    let Found::At(first) = f else {
-        return true;
-    };
-    first == at
+    found.is_none_or(|first| first.offset == r.offset)
 }
 
-pub fn breaks_2(book: &[u8], at: usize) -> bool
-    ensures { result ≡ rule2 (record_at at (drop at book.now)) }
+#[tactic(auto, unfolding(crate::specs::Rules::rule2))]
+pub fn breaks_2(r: Record) -> bool
+    ensures { result ≡ rule2 (record_in r.entry) }
 {
-    let s = rest(book, at);
-    let k = record_kind(s);
-    if k == 2 {
-        return !good_type_text(part(s, 4, 4));
+    match r.kind() {
+        None => true,
+        Some(Kind::Message) => !good_type_text(r.text()),
+        Some(_) => false,
     }
-    k == 0
 }
 
+#[tactic(auto, unfolding(numbers::specs::Bytes::mem))]
 fn never_a_field(tag: u16) -> bool
     ensures { result ≡ mem tag (0 ∷ 8 ∷ 9 ∷ 35 ∷ 10 ∷ []) }
 {
-    (tag == 0) | (tag == 8) | (tag == 9) | (tag == 35) | (tag == 10)
+    matches!(tag, 0 | 8 | 9 | 35 | 10)
 }
 
-pub fn breaks_3(book: &[u8], at: usize) -> bool
-    ensures { result ≡ rule3 (records book.now) (record_at at (drop at book.now)) }
+#[tactic(auto, unfolding(crate::specs::Rules::rule3))]
+pub fn breaks_3(book: &[u8], r: Record) -> bool
+    ensures { result ≡ rule3 (records book.now) (record_in r.entry) }
 {
-    let s = rest(book, at);
-    if record_kind(s) != 1 {
-        return false;
+    r.is(Kind::Field)
+        && (never_a_field(r.tag()) || !is_first(find_of(book, Kind::Field, r.tag()), r))
+}
+
+// Whether partner p is declared as t, and names the tag back.
+fn names_back(book: &[u8], p: u16, t: Datatype, tag: u16) -> bool
+    ensures { result ≡ (eqb (type_of (records book.now) p) (number_of t) && eqb (partner (records book.now) p) tag) }
+{
+    declared(book, p).is_some_and(|d| d.is(t) && d.partner == tag)
+}
+
+#[tactic(auto, unfolding(crate::specs::Rules::partnered))]
+fn good_partner(book: &[u8], tag: u16, d: Declared) -> bool
+    ensures { result ≡ partnered (records book.now) tag d.datatype d.partner }
+{
+    if d.is(Datatype::Length) {
+        return names_back(book, d.partner, Datatype::Data, tag);
     }
-    let tag = u16_at(s, 4);
-    never_a_field(tag) | !is_first(find_record(book, 1, tag), at)
-}
-
-// Whether partner p, declared with datatype y, names the tag back.
-fn names_back(book: &[u8], p: u16, y: u16, tag: u16) -> bool
-    ensures { result ≡ (eqb (type_of (records book.now) p) y && eqb (partner (records book.now) p) tag) }
-{
-    let d = declared(book, p);
-    (d.datatype == y) & (d.partner == tag)
-}
-
-fn good_partner(book: &[u8], tag: u16, y: u16, p: u16) -> bool
-    ensures { result ≡ partnered (records book.now) tag y p }
-{
-    if y == 5 {
-        return names_back(book, p, 10, tag);
+    if d.is(Datatype::Data) {
+        return names_back(book, d.partner, Datatype::Length, tag);
     }
-    if y == 10 {
-        return names_back(book, p, 5, tag);
-    }
-    p == 0
+    d.partner == 0
 }
 
-pub fn breaks_4(book: &[u8], at: usize) -> bool
-    ensures { result ≡ rule4 (records book.now) (record_at at (drop at book.now)) }
+#[tactic(auto, unfolding(crate::specs::Rules::rule4))]
+pub fn breaks_4(book: &[u8], r: Record) -> bool
+    ensures { result ≡ rule4 (records book.now) (record_in r.entry) }
 {
-    let s = rest(book, at);
-    if record_kind(s) != 1 {
-        return false;
-    }
-    let y = u16_at(s, 6);
-    !((1 <= y) & (y <= 16) & good_partner(book, u16_at(s, 4), y, u16_at(s, 8)))
+    let d = r.declares();
+    r.is(Kind::Field) && !(1 <= d.datatype && d.datatype <= 16 && good_partner(book, r.tag(), d))
 }
 
-fn good_members(list: &[u8], map: &[u8]) -> bool
-    ensures { (B : List Record) → Declares map.now B → result ≡ good_members B (members_of list.now) }
-{
-    let mut i = 0;
-    while 4 <= list.len() - i {
-        if !(test(map, u16_at(list, i) as usize) & (u16_at(list, i + 2) <= 1)) {
-            return false;
+// A book, and a map that holds the tags that it declares.
+#[derive(Clone, Copy)]
+pub struct Declaring<'a> {
+    pub book: &'a [u8],
+    pub map: &'a [u8; 8192],
+    pub ghost holds: { Declares map.now (records book.now) },
+}
+
+impl<'a> Declaring<'a> {
+    fn good_members(self, list: &[u8]) -> bool
+        ensures { result ≡ good_members (records self.entry.book.now) (members_of list.now) }
+    {
+        Members::of(list).all(|m| test(self.map, usize::from(m.tag)) && m.flag <= 1)
+    }
+
+    fn good_group(self, r: Record) -> bool
+        ensures { result ≡ (good_members (records self.entry.book.now) (record_in r.entry).members
+            && (is_count (records self.entry.book.now) (record_in r.entry).tag
+            && first_at (look_up (is_group (record_in r.entry).tag) (records self.entry.book.now)) (record_in r.entry).offset)) }
+    {
+        self.good_members(r.list())
+            && is_count(self.book, r.tag())
+            && is_first(find_of(self.book, Kind::Group, r.tag()), r)
+    }
+
+    #[tactic(auto, unfolding(crate::specs::Rules::rule5))]
+    pub fn breaks_5(self, r: Record) -> bool
+        ensures { result ≡ rule5 (records self.entry.book.now) (record_in r.entry) }
+    {
+        match r.kind() {
+            None => false,
+            Some(Kind::Field) => r.declares().is(Datatype::NumInGroup)
+                && !has_group(self.book, r.tag()),
+            Some(Kind::Message) => !self.good_members(r.list()),
+            Some(Kind::Group) => !self.good_group(r),
         }
-        i += 4;
-    }
-    true
-}
-
-fn good_group(book: &[u8], tag: u16, at: usize) -> bool
-    ensures { result ≡ (is_count (records book.now) tag && first_at (look_up (is_group tag) (records book.now)) at) }
-{
-    (declared(book, tag).datatype == 7) & is_first(find_record(book, 3, tag), at)
-}
-
-pub fn breaks_5(book: &[u8], at: usize, map: &[u8]) -> bool
-    requires { Declares map.now (records book.now) }
-    ensures { result ≡ rule5 (records book.now) (record_at at (drop at book.now)) }
-{
-    let s = rest(book, at);
-    let k = record_kind(s);
-    if k == 1 {
-        if u16_at(s, 6) != 7 {
-            return false;
-        }
-        return !has_group(book, u16_at(s, 4));
-    }
-    if k < 2 {
-        return false;
-    }
-    if !good_members(record_members(s), map) {
-        return true;
-    }
-    if k != 3 {
-        return false;
-    }
-    !good_group(book, u16_at(s, 4), at)
-}
-
-// What a tag is declared as, if that is a Length or a data.
-fn pair_of(book: &[u8], tag: u16, map: &[u8]) -> Declared
-    requires { Pairs map.now (records book.now) }
-    ensures { (eqb result.datatype 10 ≡ is_bounded (records book.now) tag)
-        × (eqb result.datatype 5 ≡ is_length (records book.now) tag)
-        × (result.datatype ≡ 5 → result.partner ≡ partner (records book.now) tag) }
-{
-    if test(map, tag as usize) {
-        return declared(book, tag);
-    }
-    Declared {
-        datatype: 0,
-        partner: 0,
     }
 }
 
-fn next_due(d: Declared) -> u16
-    ensures { result ≡ cond (eqb d.datatype 5) d.partner 0 }
+fn next_due(d: Option<Declared>) -> u16
+    ensures { result ≡ cond (eqb (type_told d) 5) (partner_told d) 0 }
 {
-    if d.datatype == 5 {
-        return d.partner;
+    match d {
+        Some(d) if d.is(Datatype::Length) => d.partner,
+        _ => 0,
     }
-    0
 }
 
-fn is_due(datatype: u16, tag: u16, flag: u16, due: u16, before: u16) -> bool
-    ensures { result ≡ cond (eqb datatype 10) (eqb tag due && eqb flag before) (eqb due 0) }
+fn is_due(d: Option<Declared>, m: Member, due: u16, before: u16) -> bool
+    ensures { result ≡ cond (eqb (type_told d) 10) (eqb m.tag due && eqb m.flag before) (eqb due 0) }
 {
-    if datatype == 10 {
-        return (tag == due) & (flag == before);
+    if d.is_some_and(|d| d.is(Datatype::Data)) {
+        return m.tag == due && m.flag == before;
     }
     due == 0
 }
 
-fn is_paired(book: &[u8], list: &[u8], map: &[u8]) -> bool
-    requires { Pairs map.now (records book.now) }
-    ensures { result ≡ paired (records book.now) 0 0 (members_of list.now) }
-{
-    let mut due: u16 = 0;
-    let mut before: u16 = 0;
-    let mut i = 0;
-    while 4 <= list.len() - i {
-        let tag = u16_at(list, i);
-        let flag = u16_at(list, i + 2);
-        let d = pair_of(book, tag, map);
-        if !is_due(d.datatype, tag, flag, due, before) {
-            return false;
+// A book, and a map outside which no tag is a Length or a data.
+#[derive(Clone, Copy)]
+pub struct Pairing<'a> {
+    pub book: &'a [u8],
+    pub map: &'a [u8; 8192],
+    pub ghost holds: { Pairs map.now (records book.now) },
+}
+
+impl<'a> Pairing<'a> {
+    // What a tag is declared as, if that is a Length or a data.
+    fn pair_of(self, tag: u16) -> Option<Declared>
+        ensures { (eqb (type_told result) 10 ≡ is_bounded (records self.entry.book.now) tag)
+            × (eqb (type_told result) 5 ≡ is_length (records self.entry.book.now) tag)
+            × (type_told result ≡ 5 → partner_told result ≡ partner (records self.entry.book.now) tag) }
+    {
+        let map = self.map;
+        if test(map, usize::from(tag)) {
+            return declared(self.book, tag);
         }
-        due = next_due(d);
-        before = flag;
-        i += 4;
+        None
     }
-    due == 0
+
+    // kept: `due` is a partner in the book's form, 0 for none, since a Length whose partner is 0 awaits nothing.
+    fn is_paired(self, list: &[u8]) -> bool
+        ensures { result ≡ paired (records self.entry.book.now) 0 0 (members_of list.now) }
+    {
+        let mut due: u16 = 0;
+        let mut before: u16 = 0;
+        for m in Members::of(list) {
+            let d = self.pair_of(m.tag);
+            if !is_due(d, m, due, before) {
+                return false;
+            }
+            due = next_due(d);
+            before = m.flag;
+        }
+        due == 0
+    }
+
+    #[tactic(auto, unfolding(crate::specs::Rules::rule6))]
+    pub fn breaks_6(self, r: Record) -> bool
+        ensures { result ≡ rule6 (records self.entry.book.now) (record_in r.entry) }
+    {
+        matches!(r.kind(), Some(Kind::Message | Kind::Group)) && !self.is_paired(r.list())
+    }
 }
 
-pub fn breaks_6(book: &[u8], at: usize, map: &[u8]) -> bool
-    requires { Pairs map.now (records book.now) }
-    ensures { result ≡ rule6 (records book.now) (record_at at (drop at book.now)) }
-{
-    let s = rest(book, at);
-    if record_kind(s) < 2 {
-        return false;
-    }
-    !is_paired(book, record_members(s), map)
-}
-
+#[tactic(auto, unfolding(crate::specs::Rules::starts_required))]
 fn starts_required(list: &[u8]) -> bool
     ensures { result ≡ starts_required (members_of list.now) }
 {
-    if list.len() < 4 {
-        return false;
-    }
-    u16_at(list, 2) == 1
+    Members::of(list).next().is_some_and(|m| m.flag == 1)
 }
 
-pub fn breaks_7(book: &[u8], at: usize) -> bool
-    ensures { result ≡ rule7 (record_at at (drop at book.now)) }
+#[tactic(auto, unfolding(crate::specs::Rules::rule7))]
+pub fn breaks_7(r: Record) -> bool
+    ensures { result ≡ rule7 (record_in r.entry) }
 {
-    let s = rest(book, at);
-    if record_kind(s) != 3 {
-        return false;
-    }
-    !starts_required(record_members(s))
+    r.is(Kind::Group) && !starts_required(r.list())
 }
 
-pub fn breaks_8(book: &[u8], at: usize) -> bool
-    ensures { result ≡ rule8 (records book.now) (record_at at (drop at book.now)) }
+#[tactic(auto, unfolding(crate::specs::Rules::rule8))]
+pub fn breaks_8(book: &[u8], r: Record) -> bool
+    ensures { result ≡ rule8 (records book.now) (record_in r.entry) }
 {
-    let s = rest(book, at);
-    if record_kind(s) != 2 {
-        return false;
-    }
-    !is_first(find_message(book, type_text(part(s, 4, 4))), at)
+    r.is(Kind::Message) && !is_first(find_message(book, type_text(r.text())), r)
 }

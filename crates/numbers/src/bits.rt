@@ -1,5 +1,5 @@
 // A set of numbers as bits in lent bytes: 8,192 of them hold every tag.
-ghost use Rattle.std.specs.Prelude.{◌≡◌, length, replicate};
+ghost use Rattle.std.specs.Prelude.{◌≡◌};
 ghost use Rattle.numbers.specs.Bits.{bit_at, marked};
 
 use crate::byte_at;
@@ -19,10 +19,4 @@ pub fn mark(map: &mut [u8], n: usize)
     if at < map.len() {
         map[at] |= 1 << (n % 8);
     }
-}
-
-pub fn clear(map: &mut [u8])
-    ensures { map.new ≡ replicate (length map.old) 0 }
-{
-    map.fill(0);
 }

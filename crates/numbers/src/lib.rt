@@ -2,7 +2,7 @@
 #![tactic(auto)]
 
 ghost use Rattle.std.specs.Prelude.{◌≡◌, take, drop, get_or};
-ghost use Rattle.numbers.specs.Bytes.{le16, same};
+ghost use Rattle.numbers.specs.Bytes.{le16};
 
 pub fn byte_at(s: &[u8], i: usize) -> u8
     ensures { result ≡ get_or s.now i 0 }
@@ -14,8 +14,11 @@ pub fn byte_at(s: &[u8], i: usize) -> u8
 pub fn u16_at(s: &[u8], i: usize) -> u16
     ensures { result ≡ le16 (drop i s.now) }
 {
-    let s = rest(s, i);
-    u16::from_le_bytes([byte_at(s, 0), byte_at(s, 1)])
+    match s.get(i..) {
+        Some([low, high, ..]) => u16::from_le_bytes([*low, *high]),
+        Some([low]) => u16::from(*low),
+        _ => 0,
+    }
 }
 
 // A part that would leave the slice ends with it.
@@ -30,15 +33,7 @@ pub fn part<'a>(s: &'a [u8], from: usize, n: usize) -> &'a [u8]
 pub fn rest<'a>(s: &'a [u8], from: usize) -> &'a [u8]
     ensures { result.now ≡ drop from s.now }
 {
-    s.get(from..).unwrap_or_default()
-}
-
-// Byte for byte.
-#[tactic(auto, using(crate::proofs::Same::same_is_eq))]
-pub fn same_bytes(a: &[u8], b: &[u8]) -> bool
-    ensures { result ≡ same a.now b.now }
-{
-    a == b
+    &s[from.min(s.len())..]
 }
 
 pub mod bits;

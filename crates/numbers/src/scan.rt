@@ -1,9 +1,9 @@
-// Where a byte stands, and numbers of any number of digits, capped. Total, as all of this crate.
+// Numbers of any number of digits, capped. Total, as all of this crate.
 ghost use Rattle.std.specs.Prelude.{◌≡◌, ◌+◌, min, length, drop};
 ghost use Rattle.numbers.specs.Decimal.{value};
-ghost use Rattle.numbers.specs.Scan.{upto, leading_digits};
+ghost use Rattle.numbers.specs.Scan.{leading_digits};
 
-use crate::decimal::{find_byte, value_of};
+use crate::decimal::value_of;
 use crate::rest;
 
 // The value of the digits in front, capped, and the place behind them.
@@ -11,14 +11,6 @@ use crate::rest;
 pub struct Number {
     pub value: usize,
     pub end: usize,
-}
-
-// The place of the first c from a place on, or the slice's end.
-#[tactic(auto, using(crate::proofs::Finding::upto_is_before))]
-pub fn seek(s: &[u8], from: usize, c: u8) -> usize
-    ensures { result ≡ from + upto c (drop from s.now) }
-{
-    find_byte(s, from, c)
 }
 
 pub fn number_at(s: &[u8], from: usize) -> Number

@@ -1,23 +1,22 @@
-use mathlib.Core.Path.{sym, ◌∙◌}
-use Rattle.book.proofs.Checks.{marking_start, marking_end, marking_turn}
-use Rattle.book.proofs.Walk.{within}
-use native.Mathlib.Omega.{arith}
+use Rattle.std.proofs.Common.{rules, ap, sym, ◌∙◌}
+use Rattle.book.specs.Walked.{records_left}
+use Rattle.book.proofs.Checks.{marking_start, marking_end, marking_other, marking_not, marking_new}
 use Rattle.book.proofs.checking.mark_fields.Goals as goal
 
-pub loop-all-init : goal.loop-all-init
-loop-all-init c = marking_start _ _ c.args.map.now _ c.requires c.clear.ensures
+pub loop-r-init : goal.loop-r-init
+loop-r-init g c = (tt, tt, λ p h. marking_start p _ _ _ _ (search rules) (c.fill.ensures.after (λ y e. search rules)) (ap records_left c.into_iter-r-iterator.ensures.into_iter_gives ∙ c.of-r-items.ensures))
 
-pub shape_of-map-then-n-eq0 : goal.shape_of-map-then-n-eq0
-shape_of-map-then-n-eq0 c = c.loop-all.invariant.long ∙ sym c.requires
+pub loop-r-preserved-then-not-is : goal.loop-r-preserved-then-not-is
+loop-r-preserved-then-not-is g c =
+    (tt, tt, λ p h. marking_other p _ _ _ _ _ (c.loop-r.invariant.2 p h) c.in-Some.ensures.steps (sym c.is.ensures ∙ c.if-not-is.true))
 
-pub returns-then-n-eq0 : goal.returns-then-n-eq0
-returns-then-n-eq0 c = marking_end _ _ _ _ _ c.loop-all.invariant c.record_size-n.ensures c.if-n-eq0.true
+pub loop-r-preserved-then-picks : goal.loop-r-preserved-then-picks
+loop-r-preserved-then-picks g c =
+    (tt, tt, λ p h. marking_new p _ _ _ _ _ (c.loop-r.invariant.2 p h) c.in-Some.ensures.steps (sym c.is.ensures ∙ c.if-not-is.false) _ c.declares.ensures.0 _ (h _ _ c.picks.ensures) c.if-picks.true _ (c.from.ensures ∙ c.tag.ensures) (search rules) _ c.mark.ensures)
 
-pub overflow_add-at : goal.overflow_add-at
-overflow_add-at c = omega (arith, within c.args.book.now c.loop-all.at _ c.record_size-n.ensures c.loop-all.invariant.inside)
+pub loop-r-preserved : goal.loop-r-preserved
+loop-r-preserved g c =
+    (tt, tt, λ p h. marking_not p _ _ _ _ _ (c.loop-r.invariant.2 p h) c.in-Some.ensures.steps (sym c.is.ensures ∙ c.if-not-is.false) _ c.declares.ensures.0 _ (h _ _ c.picks.ensures) c.if-picks.false)
 
-pub loop-all-smaller : goal.loop-all-smaller
-loop-all-smaller c = omega (arith, c.if-n-eq0.false, within c.args.book.now c.loop-all.at _ c.record_size-n.ensures c.loop-all.invariant.inside)
-
-pub loop-all-preserved : goal.loop-all-preserved
-loop-all-preserved c = marking_turn _ _ _ _ _ c.loop-all.invariant c.record_size-n.ensures c.if-n-eq0.false _ c.mark_field.ensures
+pub returns : goal.returns
+returns g c = λ p h. marking_end p _ _ _ (c.loop-r.invariant.2 p h) c.in-None.ensures.steps.0

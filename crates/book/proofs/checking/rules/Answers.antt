@@ -1,33 +1,88 @@
+use Rattle.std.proofs.Common.{◌≡◌, Err, rules, ◌∙◌}
+use Rattle.book.specs.Check.{rule_of}
 use Rattle.book.specs.Records.{records}
-use Rattle.book.proofs.Checks.{unprepared, declares_of, pairs_of, in_order}
-use mathlib.Core.Path.{◌∙◌}
-use lib.Dec.{lit≤}
-use native.Mathlib.Omega.{arith}
+use Rattle.book.proofs.Checks.{rules_stop, rules_on, rules_last}
 use Rattle.book.proofs.checking.rules.Goals as goal
 
-pub first_break-two-requires : goal.first_break-two-requires
-first_break-two-requires c = (lit≤ tt, lit≤ tt, unprepared _ _ _ (λ e. omega (arith, e)) (λ e. omega (arith, e)))
+pub returns-in_err-first_break : goal.returns-in_err-first_break
+unfolding rule_of
+returns-in_err-first_break c =
+    let B = records c.args.book.now in
+    let e : c.from_residual.result ≡ Err c.in_err-first_break.field-0.0 = search rules in
+    rw e (rules_stop 7 2 B _ (c.first_break.ensures (rule_of 2 B) (λ r b q. search rules)) _ c.in_err-first_break.was)
 
-pub and_rule-three-requires : goal.and_rule-three-requires
-and_rule-three-requires c = (lit≤ tt, lit≤ tt, unprepared _ _ _ (λ e. omega (arith, e)) (λ e. omega (arith, e)))
+pub returns-in_err-first_break-2 : goal.returns-in_err-first_break-2
+unfolding rule_of
+returns-in_err-first_break-2 c =
+    let B = records c.args.book.now in
+    let on2 = rules_on 7 2 B _ (c.first_break.ensures (rule_of 2 B) (λ r b q. search rules)) _ c.in_ok-first_break.was in
+    let e : c.from_residual-in_err-first_break-2.result ≡ Err c.in_err-first_break-2.field-0.0 = search rules in
+    rw e (rules_stop 6 3 B _ (c.first_break-2.ensures (rule_of 3 B) (λ r b q. search rules)) _ c.in_err-first_break-2.was ∙ on2)
 
-pub and_rule-four-requires : goal.and_rule-four-requires
-and_rule-four-requires c = (lit≤ tt, lit≤ tt, unprepared _ _ _ (λ e. omega (arith, e)) (λ e. omega (arith, e)))
+pub returns-in_err-first_break-3 : goal.returns-in_err-first_break-3
+unfolding rule_of
+returns-in_err-first_break-3 c =
+    let B = records c.args.book.now in
+    let on2 = rules_on 7 2 B _ (c.first_break.ensures (rule_of 2 B) (λ r b q. search rules)) _ c.in_ok-first_break.was in
+    let on3 = rules_on 6 3 B _ (c.first_break-2.ensures (rule_of 3 B) (λ r b q. search rules)) _ c.in_ok-first_break-2.was ∙ on2 in
+    let e : c.from_residual-in_err-first_break-3.result ≡ Err c.in_err-first_break-3.field-0.0 = search rules in
+    rw e (rules_stop 5 4 B _ (c.first_break-3.ensures (rule_of 4 B) (λ r b q. search rules)) _ c.in_err-first_break-3.was ∙ on3)
 
-pub and_rule-five-requires : goal.and_rule-five-requires
-and_rule-five-requires c = (lit≤ tt, lit≤ tt, (λ e. declares_of _ (records c.args.book.now) c.mark_fields.ensures, λ e. absurd (omega (arith, e))))
+pub returns-in_err-first_undeclared : goal.returns-in_err-first_undeclared
+unfolding rule_of
+returns-in_err-first_undeclared c =
+    let B = records c.args.book.now in
+    let on2 = rules_on 7 2 B _ (c.first_break.ensures (rule_of 2 B) (λ r b q. search rules)) _ c.in_ok-first_break.was in
+    let on3 = rules_on 6 3 B _ (c.first_break-2.ensures (rule_of 3 B) (λ r b q. search rules)) _ c.in_ok-first_break-2.was ∙ on2 in
+    let on4 = rules_on 5 4 B _ (c.first_break-3.ensures (rule_of 4 B) (λ r b q. search rules)) _ c.in_ok-first_break-3.was ∙ on3 in
+    let e : c.from_residual-in_err-first_undeclared.result ≡ Err c.in_err-first_undeclared.field-0.0 = search rules in
+    rw e (rules_stop 4 5 B _ c.first_undeclared.ensures _ c.in_err-first_undeclared.was ∙ on4)
 
-pub and_rule-six-requires : goal.and_rule-six-requires
-and_rule-six-requires c = (lit≤ tt, lit≤ tt, (λ e. absurd (omega (arith, e)), λ e. pairs_of _ (records c.args.book.now) c.mark_fields-2.ensures))
+pub returns-in_err-first_unpaired : goal.returns-in_err-first_unpaired
+unfolding rule_of
+returns-in_err-first_unpaired c =
+    let B = records c.args.book.now in
+    let on2 = rules_on 7 2 B _ (c.first_break.ensures (rule_of 2 B) (λ r b q. search rules)) _ c.in_ok-first_break.was in
+    let on3 = rules_on 6 3 B _ (c.first_break-2.ensures (rule_of 3 B) (λ r b q. search rules)) _ c.in_ok-first_break-2.was ∙ on2 in
+    let on4 = rules_on 5 4 B _ (c.first_break-3.ensures (rule_of 4 B) (λ r b q. search rules)) _ c.in_ok-first_break-3.was ∙ on3 in
+    let on5 = rules_on 4 5 B _ c.first_undeclared.ensures _ c.in_ok-first_undeclared.was ∙ on4 in
+    let e : c.from_residual-in_err-first_unpaired.result ≡ Err c.in_err-first_unpaired.field-0.0 = search rules in
+    rw e (rules_stop 3 6 B _ c.first_unpaired.ensures _ c.in_err-first_unpaired.was ∙ on5)
 
-pub and_rule-seven-requires : goal.and_rule-seven-requires
-and_rule-seven-requires c = (lit≤ tt, lit≤ tt, unprepared _ _ _ (λ e. omega (arith, e)) (λ e. omega (arith, e)))
+pub returns-in_err-first_break-4 : goal.returns-in_err-first_break-4
+unfolding rule_of
+returns-in_err-first_break-4 c =
+    let B = records c.args.book.now in
+    let on2 = rules_on 7 2 B _ (c.first_break.ensures (rule_of 2 B) (λ r b q. search rules)) _ c.in_ok-first_break.was in
+    let on3 = rules_on 6 3 B _ (c.first_break-2.ensures (rule_of 3 B) (λ r b q. search rules)) _ c.in_ok-first_break-2.was ∙ on2 in
+    let on4 = rules_on 5 4 B _ (c.first_break-3.ensures (rule_of 4 B) (λ r b q. search rules)) _ c.in_ok-first_break-3.was ∙ on3 in
+    let on5 = rules_on 4 5 B _ c.first_undeclared.ensures _ c.in_ok-first_undeclared.was ∙ on4 in
+    let on6 = rules_on 3 6 B _ c.first_unpaired.ensures _ c.in_ok-first_unpaired.was ∙ on5 in
+    let e : c.from_residual-in_err-first_break-4.result ≡ Err c.in_err-first_break-4.field-0.0 = search rules in
+    rw e (rules_stop 2 7 B _ (c.first_break-4.ensures (rule_of 7 B) (λ r b q. search rules)) _ c.in_err-first_break-4.was ∙ on6)
 
-pub and_rule-eight-requires : goal.and_rule-eight-requires
-and_rule-eight-requires c = (lit≤ tt, lit≤ tt, unprepared _ _ _ (λ e. omega (arith, e)) (λ e. omega (arith, e)))
-
-pub and_nested-requires : goal.and_nested-requires
-and_nested-requires c = c.mark_fields-2.auto.map ∙ c.mark_fields.auto.map ∙ c.requires
+pub returns-in_err-first_break-5 : goal.returns-in_err-first_break-5
+unfolding rule_of
+returns-in_err-first_break-5 c =
+    let B = records c.args.book.now in
+    let on2 = rules_on 7 2 B _ (c.first_break.ensures (rule_of 2 B) (λ r b q. search rules)) _ c.in_ok-first_break.was in
+    let on3 = rules_on 6 3 B _ (c.first_break-2.ensures (rule_of 3 B) (λ r b q. search rules)) _ c.in_ok-first_break-2.was ∙ on2 in
+    let on4 = rules_on 5 4 B _ (c.first_break-3.ensures (rule_of 4 B) (λ r b q. search rules)) _ c.in_ok-first_break-3.was ∙ on3 in
+    let on5 = rules_on 4 5 B _ c.first_undeclared.ensures _ c.in_ok-first_undeclared.was ∙ on4 in
+    let on6 = rules_on 3 6 B _ c.first_unpaired.ensures _ c.in_ok-first_unpaired.was ∙ on5 in
+    let on7 = rules_on 2 7 B _ (c.first_break-4.ensures (rule_of 7 B) (λ r b q. search rules)) _ c.in_ok-first_break-4.was ∙ on6 in
+    let e : c.from_residual-in_err-first_break-5.result ≡ Err c.in_err-first_break-5.field-0.0 = search rules in
+    rw e (rules_stop 1 8 B _ (c.first_break-5.ensures (rule_of 8 B) (λ r b q. search rules)) _ c.in_err-first_break-5.was ∙ on7)
 
 pub returns : goal.returns
-returns c = in_order (records c.args.book.now) _ _ _ _ _ _ _ _ c.first_break-two.ensures c.and_rule-three.ensures c.and_rule-four.ensures c.and_rule-five.ensures c.and_rule-six.ensures c.and_rule-seven.ensures c.and_rule-eight.ensures c.and_nested.ensures
+unfolding rule_of
+returns c =
+    let B = records c.args.book.now in
+    let on2 = rules_on 7 2 B _ (c.first_break.ensures (rule_of 2 B) (λ r b q. search rules)) _ c.in_ok-first_break.was in
+    let on3 = rules_on 6 3 B _ (c.first_break-2.ensures (rule_of 3 B) (λ r b q. search rules)) _ c.in_ok-first_break-2.was ∙ on2 in
+    let on4 = rules_on 5 4 B _ (c.first_break-3.ensures (rule_of 4 B) (λ r b q. search rules)) _ c.in_ok-first_break-3.was ∙ on3 in
+    let on5 = rules_on 4 5 B _ c.first_undeclared.ensures _ c.in_ok-first_undeclared.was ∙ on4 in
+    let on6 = rules_on 3 6 B _ c.first_unpaired.ensures _ c.in_ok-first_unpaired.was ∙ on5 in
+    let on7 = rules_on 2 7 B _ (c.first_break-4.ensures (rule_of 7 B) (λ r b q. search rules)) _ c.in_ok-first_break-4.was ∙ on6 in
+    let on8 = rules_on 1 8 B _ (c.first_break-5.ensures (rule_of 8 B) (λ r b q. search rules)) _ c.in_ok-first_break-5.was ∙ on7 in
+    rules_last 0 9 B _ c.first_nested.ensures ∙ on8

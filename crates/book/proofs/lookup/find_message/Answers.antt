@@ -1,26 +1,12 @@
-use Rattle.book.proofs.Look.{look_start, look_none, look_hit, look_turn}
-use Rattle.book.proofs.Walk.{within}
-use native.Mathlib.Omega.{arith}
+use Rattle.std.proofs.Common.{rules, tests}
+use Rattle.std.proofs.lemmas.Iterator.Consumers.{YieldsList-from_first}
+use Rattle.std.proofs.lemmas.Iterator.Search.{find_from_yields_List}
+use Rattle.book.specs.Records.{is_message, records}
+use Rattle.book.specs.Walked.{record_in, records_left}
+use Rattle.book.proofs.Look.{found_is}
 use Rattle.book.proofs.lookup.find_message.Goals as goal
 
-pub loop-at-init : goal.loop-at-init
-loop-at-init c = look_start _ _
-
-pub returns-then-n-eq0 : goal.returns-then-n-eq0
-returns-then-n-eq0 c = look_none _ _ _ _ c.loop-at.invariant c.record_size-n.ensures c.if-n-eq0.true
-
-pub returns-then-is_message : goal.returns-then-is_message
-returns-then-is_message c =
-    look_hit _ _ _ _ c.loop-at.invariant c.record_size-n.ensures c.if-n-eq0.false _ c.is_message.ensures c.if-is_message.true
-
-pub overflow_add-at : goal.overflow_add-at
-overflow_add-at c =
-    omega (arith, within c.args.book.now c.loop-at.at _ c.record_size-n.ensures c.loop-at.invariant.0)
-
-pub loop-at-smaller : goal.loop-at-smaller
-loop-at-smaller c =
-    omega (arith, c.if-n-eq0.false, within c.args.book.now c.loop-at.at _ c.record_size-n.ensures c.loop-at.invariant.0)
-
-pub loop-at-preserved : goal.loop-at-preserved
-loop-at-preserved c =
-    look_turn _ _ _ _ c.loop-at.invariant c.record_size-n.ensures c.if-n-eq0.false _ c.is_message.ensures c.if-is_message.false
+pub returns : goal.returns
+returns c =
+    let p = is_message c.args.text.now in let B = records c.args.book.now in
+    found_is p B c.find.result (find_from_yields_List p c.find.new.self _ c.find.result c.find.ensures.ran (YieldsList-from_first record_in records_left {s = c.of.result} B c.of.ensures) (λ x b q k. search (rules, tests)))

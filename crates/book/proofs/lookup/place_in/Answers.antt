@@ -1,21 +1,20 @@
-use Rattle.book.proofs.Members.{place_start, place_hit, place_turn, place_end}
-use native.Mathlib.Omega.{arith}
+use Rattle.std.proofs.Common.{rules, tests, eqb, inl, arith, length, ◌/◌}
+use Rattle.std.proofs.lemmas.Iterator.Consumers.{YieldsList-from_first}
+use Rattle.std.proofs.lemmas.Iterator.Search.{position_from_yields_List}
+use Rattle.book.specs.Lists.{member_in, members_left}
+use Rattle.book.specs.Records.{members_of}
+use Rattle.book.proofs.Members.{members_count, place_found}
+use mathlib.Core.Path.{◌≡◌, sym, ap, ◌∙◌}
 use Rattle.book.proofs.lookup.place_in.Goals as goal
 
-pub loop-i-init : goal.loop-i-init
-loop-i-init c = place_start _ _
-
-pub returns-then-u16_at-tag : goal.returns-then-u16_at-tag
-returns-then-u16_at-tag c = place_hit _ _ _ _ c.loop-i.invariant (omega (arith, c.loop-i.invariant.inside, c.loop-i-test.true)) _ c.u16_at.ensures c.if-u16_at-tag.true
-
-pub overflow_add-k : goal.overflow_add-k
-overflow_add-k c = omega (arith, c.loop-i.invariant.inside, c.loop-i.invariant.slow, c.loop-i-test.true, c.well_formed)
-
-pub loop-i-smaller : goal.loop-i-smaller
-loop-i-smaller c = omega (arith, c.loop-i.invariant.inside, c.loop-i-test.true)
-
-pub loop-i-preserved : goal.loop-i-preserved
-loop-i-preserved c = place_turn _ _ _ _ c.loop-i.invariant (omega (arith, c.loop-i.invariant.inside, c.loop-i-test.true)) _ c.u16_at.ensures c.if-u16_at-tag.false
+pub position-requires-clause-fits : goal.position-requires-clause-fits
+position-requires-clause-fits c =
+    let e : length (members_left c.of.result) ≡ length c.args.list.now / 4 = rw c.of.ensures (members_count c.args.list.now) in
+    inl (omega (arith, e, c.well_formed))
 
 pub returns : goal.returns
-returns c = place_end _ _ _ _ c.loop-i.invariant (omega (arith, c.loop-i.invariant.inside, c.loop-i-test.false))
+returns c =
+    let ms = members_of c.args.list.now in
+    c.unwrap_or.ensures
+    ∙ place_found ms c.args.tag _ _ (sym (members_count c.args.list.now))
+    (position_from_yields_List (λ m. eqb m.tag c.args.tag) c.position.new.self _ c.position.result c.position.ensures.ran (YieldsList-from_first member_in members_left {s = c.of.result} ms (ap members_of c.of.ensures)) (λ x b q k. search (rules, tests)))

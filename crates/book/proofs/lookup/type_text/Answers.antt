@@ -1,15 +1,11 @@
-use Rattle.book.proofs.Look.{text_start, text_zero, text_turn, text_end}
-use borrow.Author.Rules.{rules}
+use Rattle.std.proofs.Common.{rules, tests, eqb, take, ap, ◌∙◌}
+use Rattle.std.proofs.lemmas.Iterator.{YieldsList-from_slice}
+use Rattle.std.proofs.lemmas.Iterator.Search.{position_from_yields_List}
+use Rattle.book.proofs.Texts.{text_is, position_or_end}
 use Rattle.book.proofs.lookup.type_text.Goals as goal
 
-pub loop-i-init : goal.loop-i-init
-loop-i-init c = text_start _
-
-pub returns-then-w-i-eq0 : goal.returns-then-w-i-eq0
-returns-then-w-i-eq0 c = text_zero _ _ c.loop-i.invariant (search rules) c.if-w-i-eq0.true
-
-pub loop-i-preserved : goal.loop-i-preserved
-loop-i-preserved c = text_turn _ _ c.loop-i.invariant (search rules) c.if-w-i-eq0.false
-
 pub returns : goal.returns
-returns c = text_end _ _ c.loop-i.invariant c.loop-i-test.false
+returns c =
+    let w = c.args.w.now in
+    ap (λ n. take n w) (c.unwrap_or.ensures ∙ position_or_end (λ b. eqb b 0) w _ (position_from_yields_List (λ b. eqb b 0) _ _ c.position.result c.position.ensures.ran (YieldsList-from_slice w (cc)) (λ x b q k. search (rules, tests))))
+    ∙ text_is w

@@ -1,18 +1,18 @@
+use Rattle.std.proofs.Common.{arith, sym, refl}
 use Rattle.book.proofs.Walk.{stop_start, stop_end, stop_turn, within}
-use native.Mathlib.Omega.{arith}
 use Rattle.book.proofs.records.first_bad_record.Goals as goal
 
-pub loop-at-init : goal.loop-at-init
-loop-at-init c = stop_start _
-
-pub returns-then-n-eq0 : goal.returns-then-n-eq0
-returns-then-n-eq0 c = stop_end _ _ _ c.loop-at.invariant c.record_size-n.ensures c.if-n-eq0.true
+pub loop-n-init : goal.loop-n-init
+loop-n-init c = stop_start _
 
 pub overflow_add-at : goal.overflow_add-at
-overflow_add-at c = omega (arith, within c.args.book.now c.loop-at.at _ c.record_size-n.ensures c.loop-at.invariant.0)
+overflow_add-at c = omega (arith, within c.args.book.now c.loop-n.at _ (sym c.in-Some.ensures.0) c.loop-n.invariant.0, c.well_formed)
 
-pub loop-at-smaller : goal.loop-at-smaller
-loop-at-smaller c = omega (arith, c.if-n-eq0.false, within c.args.book.now c.loop-at.at _ c.record_size-n.ensures c.loop-at.invariant.0)
+pub loop-n-smaller : goal.loop-n-smaller
+loop-n-smaller c = omega (arith, c.in-Some.ensures.1, within c.args.book.now c.loop-n.at _ (sym c.in-Some.ensures.0) c.loop-n.invariant.0)
 
-pub loop-at-preserved : goal.loop-at-preserved
-loop-at-preserved c = stop_turn _ _ _ c.loop-at.invariant c.record_size-n.ensures c.if-n-eq0.false
+pub loop-n-preserved : goal.loop-n-preserved
+loop-n-preserved c = stop_turn _ _ _ c.loop-n.invariant (sym c.in-Some.ensures.0) (λ z. omega (arith, z, c.in-Some.ensures.1))
+
+pub returns : goal.returns
+returns c = stop_end _ _ 0 c.loop-n.invariant (sym c.in_default.ensures) refl

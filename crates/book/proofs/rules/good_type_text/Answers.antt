@@ -1,21 +1,11 @@
-use Rattle.book.proofs.RuleLaws.{text_empty, text_unprintable, text_begin, text_bad, text_next, text_over}
-use borrow.Author.Rules.{rules}
+use Rattle.std.proofs.Common.{rules, tests}
+use Rattle.std.proofs.lemmas.Iterator.{YieldsList-from_slice}
+use Rattle.std.proofs.lemmas.Iterator.Search.{all_from_yields_List}
+use Rattle.book.proofs.Texts.{printable, is_zero, some_is, good_text_is}
 use Rattle.book.proofs.rules.good_type_text.Goals as goal
 
-pub returns-then-w-eq0 : goal.returns-then-w-eq0
-returns-then-w-eq0 c = text_empty _ c.if-w-eq0.true
-
-pub returns-then-not-printable : goal.returns-then-not-printable
-returns-then-not-printable c = text_unprintable _ c.if-w-eq0.false _ c.printable.ensures c.if-not-printable.true
-
-pub loop-i-init : goal.loop-i-init
-loop-i-init c = text_begin _ c.if-w-eq0.false _ c.printable.ensures c.if-not-printable.false
-
-pub returns-then-not-p-ended : goal.returns-then-not-p-ended
-returns-then-not-p-ended c = text_bad _ _ _ c.loop-i.invariant (search rules) _ c.printable-p.ensures c.if-not-p-ended.true
-
-pub loop-i-preserved : goal.loop-i-preserved
-loop-i-preserved c = text_next _ _ _ c.loop-i.invariant (search rules) _ c.printable-p.ensures c.if-not-p-ended.false
-
 pub returns : goal.returns
-returns c = text_over _ _ _ c.loop-i.invariant c.loop-i-test.false
+returns c =
+    let a = all_from_yields_List printable _ _ c.all-is_printable.result c.all-is_printable.ensures.ran (YieldsList-from_slice c.type_text-text.result.now (cc)) (λ x b q k. search (rules, tests)) in
+    let z = all_from_yields_List is_zero _ _ c.all-is_filled.result c.all-is_filled.ensures.ran (YieldsList-from_slice c.rest.result.now (cc)) (λ x b q k. search (rules, tests)) in
+    rw (c.is_empty.ensures, a, z, c.rest.ensures, c.type_text-text.ensures, some_is) (good_text_is c.args.w.now)
