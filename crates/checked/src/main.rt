@@ -15,7 +15,7 @@
 
 mod pen;
 
-use book::Verdict;
+use book::Broken;
 use pen::Pen;
 use std::io;
 use std::io::Read;
@@ -27,8 +27,8 @@ const INPUT: u64 = 131072;
 fn answer(rt: &impl Print, datatype: Option<u16>, bytes: &[u8]) -> io::Result<()> {
     match datatype {
         None => match book::check(bytes) {
-            Verdict::Sound => println!(rt; " SOUND"),
-            Verdict::Broken(rule, offset) => println!(rt; " UNSOUND {rule} {offset}"),
+            Ok(()) => println!(rt; " SOUND"),
+            Err(Broken { rule, offset }) => println!(rt; " UNSOUND {} {offset}", u16::from(rule)),
         },
         Some(n) if forms::of_type(n, bytes) => println!(rt; " yes"),
         Some(_) => println!(rt; " no"),

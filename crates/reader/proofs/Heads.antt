@@ -4,11 +4,11 @@ use mathlib.Core.Bool.{Bool, true, false, cond, ◌&&◌, not, and-false}
 use mathlib.Core.List.{List, [], ◌∷◌}
 use Prim.Native.Nat.{ℕ, suc, ◌+◌, ◌<◌, min}
 use native.Mathlib.Omega.{arith}
-use lib.Dec.{eqb, ltb, leb, leb-suc-suc}
-use lib.ListN.{length, take, drop, get_or, get_or-eq_default}
+use lib.Dec.{eqb, ltb, leb}
+use lib.ListN.{length, drop, get_or, get_or-eq_default}
 use borrow.Author.Tests.{ltb-true, ltb-false, leb-true, eqb-true, lt-ltb, ne_eqb}
 use Rattle.numbers.specs.Decimal.{digit, digits, value, tag_form}
-use Rattle.numbers.specs.Scan.{upto, leading_digits}
+use Rattle.numbers.specs.Scan.{leading_digits}
 use Rattle.numbers.proofs.Tests.{clash, to_false, and_left, and_right}
 use Rattle.numbers.proofs.Shortest.{render_of}
 use Rattle.message.specs.Rows.{lead}
@@ -160,16 +160,3 @@ head_tag s h = rw (h.cuts, h.form)
 pub head_lead : (s : List ℕ) → Head s → lead (value (leading_digits s)) ≡ length (leading_digits s) + 1
 unfolding lead
 head_lead s h = rw (render_of (leading_digits s) h.form)
-
--- the cut at a byte, by the count of the bytes before it
-pub cut_upto : (c : ℕ) (s : List ℕ) → cut c s ≡ cond (ltb (upto c s) (length s)) (cut_at (take (upto c s) s) (drop (suc (upto c s)) s)) uncut
-unfolding cut upto
-cut_upto c [] = refl
-cut_upto c (b ∷ s) = go (eqb b c) refl (cut_upto c s)
-  where
-    go : (t : Bool) → eqb b c ≡ t → cut c s ≡ cond (ltb (upto c s) (length s)) (cut_at (take (upto c s) s) (drop (suc (upto c s)) s)) uncut
-        → cut c (b ∷ s) ≡ cond (ltb (upto c (b ∷ s)) (length (b ∷ s))) (cut_at (take (upto c (b ∷ s)) (b ∷ s)) (drop (suc (upto c (b ∷ s))) (b ∷ s))) uncut
-    go true e ih = let h : ltb 0 (suc (length s)) ≡ true = lt-ltb 0 (suc (length s)) (omega arith) in rw (e, h)
-    go false e ih =
-        let h : ltb (suc (upto c s)) (suc (length s)) ≡ ltb (upto c s) (length s) = leb-suc-suc (suc (upto c s)) (length s) in
-        rw (e, h, ih) (grow_cond b (ltb (upto c s) (length s)) (take (upto c s) s) (drop (suc (upto c s)) s))

@@ -1,8 +1,8 @@
 pub mod Filled
 pub mod ListLaws
 pub mod RowLaws
-pub mod Closes
 pub mod Heads
 pub mod Fielding
-pub mod Taking
+pub mod Cuts
 pub mod Framing
+pub mod Taking

@@ -1,49 +1,56 @@
 -- Laws of rows that are put down one behind the other. Assumes nothing.
-use mathlib.Core.Path.{◌≡◌, refl, sym, ◌∙◌}
-use mathlib.Core.Bool.{Bool, true, false}
-use mathlib.Core.List.{List, [], ◌∷◌, ◌++◌}
-use Prim.Native.Nat.{ℕ, suc, ◌+◌, ◌*◌, ◌/◌, ◌%◌, ◌≤◌, ◌<◌}
+use mathlib.Core.Path.{◌≡◌, refl, sym, ap, ◌∙◌}
+use mathlib.Core.Bool.{Bool, true, false, cond}
+use mathlib.Core.List.{List, [], ◌∷◌, ◌++◌, map, append_assoc}
+use Prim.Native.Nat.{ℕ, suc, ◌+◌, ◌-◌, ◌*◌, ◌/◌, ◌%◌, ◌≤◌, ◌<◌}
 use native.Mathlib.Omega.{arith}
-use native.Mathlib.Nat.{add-zero}
-use native.Mathlib.Numerals.{towards_suc}
-use borrow.Author.Tests.{le-leb, lt-leb}
+use native.Mathlib.Nat.{add-zero, le-add_right}
+use borrow.Author.Tests.{le-leb}
 use lib.Dec.{leb}
-use lib.ListN.{length, set, length-append}
-use lib.Seq.{sets, length-sets}
+use lib.ListN.{length, length-map, get_or, take, drop, length-append}
+use lib.Seq.{sets, sets-eq, length-sets}
+use borrow.Rule.Slice.PartMut.{put_mid, Post-is}
+use Rattle.std.specs.Array.{IsMapOf}
+use Rattle.std.specs.Fn.{Mut, Called}
+use Rattle.std.specs.List.{flat_map}
+use Rattle.std.proofs.lemmas.List.{ext_get_or, get_or-map}
 use Rattle.numbers.specs.Bytes.{little_endian}
 use Rattle.message.specs.Rows.{Row}
-use Rattle.reader.specs.Filling.{put_row, put_rows, row_bytes}
-use Rattle.reader.specs.declared.Line.{Line}
-use Rattle.reader.specs.Met.{line_row}
+use Rattle.reader.specs.Filling.{put_row, put_rows}
 
--- no room, no row
-pub row_none : (size : ℕ) (numbers : Row → List ℕ) (i : List ℕ) (k at : ℕ) (r : Row) → at ≡ size * k → length i < at + size → i ≡ put_row size numbers i k r
-row_none size numbers i k at r e h = rw (← e, lt-leb (at + size) (length i) h)
+-- a part that is written whole is one run of sets
+pub part_sets : {T : Type 0} (xs : List T) (at : ℕ) (ys zs : List T) → zs ≡ ys → at + length ys ≤ length xs
+    → put_mid at (at + length ys - at) xs zs ≡ cond (leb (at + length ys) (length xs)) (sets xs at ys) xs
+part_sets xs at ys zs e h =
+    rw (e, le-leb (at + length ys) (length xs) h, sets-eq ys xs at h, Post-is at (at + length ys) xs (le-add_right at (length ys))) (sym (append_assoc (take at xs) ys (drop (at + length ys) xs)))
 
-pub row_some : (size : ℕ) (numbers : Row → List ℕ) (i o : List ℕ) (k at : ℕ) (r : Row) → at ≡ size * k → at + size ≤ length i → o ≡ sets i at (numbers r) → o ≡ put_row size numbers i k r
-row_some size numbers i o k at r e h q = q ∙ rw (← e, le-leb (at + size) (length i) h)
+-- the numbers of a row are put where the row is put
+pub put_is : (size : ℕ) (numbers : Row → List ℕ) (i o l : List ℕ) (k : ℕ) (r : Row) → l ≡ numbers r → length l ≡ size
+    → o ≡ cond (leb (size * k + length l) (length i)) (sets i (size * k) l) i → o ≡ put_row size numbers i k r
+put_is size numbers i o l k r e n q = q ∙ rw (n, e)
 
--- six stores are one run of sets
-pub six : (i : List ℕ) (at a b c d e f : ℕ)
-    → set (set (set (set (set (set i at a) (at + 1) b) (at + 2) c) (at + 3) d) (at + 4) e) (at + 5) f ≡ sets i at (a ∷ b ∷ c ∷ d ∷ e ∷ f ∷ [])
-six i at a b c d e f = simp towards_suc refl
+-- pairs of bytes, one behind the other
+abbrev pair_of : ℕ → List ℕ
+pair_of n = n % 256 ∷ n / 256 ∷ []
 
-pub two : (i : List ℕ) (at a b : ℕ) → set (set i at a) (at + 1) b ≡ sets i at (a ∷ b ∷ [])
-two i at a b = simp towards_suc refl
+flat_pairs : (l : List ℕ) → flat_map (λ p. p) (map pair_of l) ≡ little_endian l
+unfolding little_endian
+flat_pairs [] = refl
+flat_pairs (n ∷ l) = ap (λ r. n % 256 ∷ n / 256 ∷ r) (flat_pairs l)
 
--- six pairs of bytes, one behind the other
-pub pairs : (i₀ i₁ i₂ i₃ i₄ i₅ i₆ : List ℕ) (at : ℕ) (r : Line)
-    → i₁ ≡ sets i₀ at (r.tag % 256 ∷ r.tag / 256 ∷ [])
-    → i₂ ≡ sets i₁ (at + 2) (r.start % 256 ∷ r.start / 256 ∷ [])
-    → i₃ ≡ sets i₂ (at + 4) (r.size % 256 ∷ r.size / 256 ∷ [])
-    → i₄ ≡ sets i₃ (at + 6) (r.depth % 256 ∷ r.depth / 256 ∷ [])
-    → i₅ ≡ sets i₄ (at + 8) (r.count % 256 ∷ r.count / 256 ∷ [])
-    → i₆ ≡ sets i₅ (at + 10) (r.inst % 256 ∷ r.inst / 256 ∷ [])
-    → i₆ ≡ sets i₀ at (row_bytes (line_row r))
-unfolding row_bytes little_endian
-pairs i₀ i₁ i₂ i₃ i₄ i₅ i₆ at r e₁ e₂ e₃ e₄ e₅ e₆ =
-    let t : at + 10 ≡ suc (suc (at + 8)) = omega arith in
-    e₆ ∙ rw (e₅, e₄, e₃, e₂, e₁, t) (simp towards_suc refl)
+pub pairs_flat : {F : Type 0} (g : Mut F (ℕ × Unit {0}) (List ℕ)) (f : F) (l : List ℕ) (ps : List (List ℕ)) (n : ℕ) → IsMapOf g f l ps n → length l ≡ n
+    → ((p q : F) (n : ℕ) (r : List ℕ) → Called g p (n, tt) r q → r ≡ n % 256 ∷ n / 256 ∷ []) → flat_map (λ p. p) ps ≡ little_endian l
+pairs_flat g f l ps n m e each = ap (flat_map (λ p. p)) are ∙ flat_pairs l
+  where
+    at : (i : ℕ) → i < length ps → get_or ps i [] ≡ get_or (map pair_of l) i []
+    at i h =
+        let in_n : i < n = rw m.long at h in
+        let in_l : i < length l = rw e in_n in
+        let (p, q, ran) = m.at i 0 [] in_n in
+        each p q (get_or l i 0) (get_or ps i []) ran ∙ sym (get_or-map pair_of l i 0 [] in_l)
+
+    are : ps ≡ map pair_of l
+    are = ext_get_or [] ps (map pair_of l) (m.long ∙ sym (length-map l pair_of ∙ e)) at
 
 module _ (size : ℕ) (numbers : Row → List ℕ) where
   pub rows_one : (i : List ℕ) (k : ℕ) (r : Row) → put_row size numbers i k r ≡ put_rows size numbers i k (r ∷ [])

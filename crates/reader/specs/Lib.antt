@@ -4,5 +4,6 @@ pub mod Frame
 pub mod Reading
 pub mod Filling
 pub mod Met
+pub mod Refusals
 pub mod Taken
 pub mod Answers

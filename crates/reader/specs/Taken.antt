@@ -1,21 +1,23 @@
 -- What the code's answer at a field says: places in m, the message without its last seven bytes. Assumes nothing.
-use Rattle.std.specs.Prelude.{◌≡◌, cond, List, ℕ, ◌+◌, ◌-◌, ◌≤◌, ◌<◌, eqb, length, take, drop}
+use Rattle.std.specs.Prelude.{◌≡◌, cond, List, ℕ, ◌+◌, ◌-◌, ◌≤◌, ◌<◌, eqb, length, take, drop, Result, Ok, Err}
 use Rattle.numbers.specs.Decimal.{value}
 use Rattle.book.specs.Records.{Record, type_of, partner}
 use Rattle.message.specs.Arrangement.{single, pair}
 use Rattle.message.specs.Rows.{lead}
 use Rattle.reader.specs.declared.Grabbed.{Grabbed}
-use Rattle.reader.specs.declared.Grabbed.TheVariants.{Single, Pair, Fault}
+use Rattle.reader.specs.declared.Grabbed.TheVariants.{Single, Pair}
+use Rattle.reader.specs.declared.refusal.Refused.{Refused}
 use Rattle.reader.specs.Fields.{Grab, got, fault, ended}
+use Rattle.reader.specs.Refusals.{number, tag_of}
 
 -- the bytes from a up to b
 abbrev pub between : List ℕ → ℕ → ℕ → List ℕ
 between m a b = take (b - a) (drop a m)
 
-abbrev pub taken : List ℕ → Grabbed → Grab
-taken m (Single t y a b) = got (single t (between m a b)) (drop (b + 1) m)
-taken m (Pair l a b d c e) = got (pair l (between m a b) d (between m c e)) (drop (e + 1) m)
-taken m (Fault n p) = fault n (drop p m)
+abbrev pub taken : List ℕ → Result Grabbed Refused → Grab
+taken m (Ok (Single f y)) = got (single f.tag (between m f.start f.end)) (drop (f.end + 1) m)
+taken m (Ok (Pair l d)) = got (pair l.tag (between m l.start l.end) d.tag (between m d.start d.end)) (drop (d.end + 1) m)
+taken m (Err r) = fault (number r.why) (drop r.at m)
 
 -- a field at a place: its tag, and its value from a up to b
 pub record Stands (m : List ℕ) (at t a b : ℕ) : Type 0 where
@@ -25,13 +27,13 @@ pub record Stands (m : List ℕ) (at t a b : ℕ) : Type 0 where
   pub some : a < b
   pub inside : b < length m
 
--- the answer's places are right; a fault is at the field or at the data behind it
-abbrev pub Placed : List Record → List ℕ → ℕ → Grabbed → Type 0
-Placed B m at (Single t y a b) = (y ≡ type_of B t) × Stands m at t a b
-Placed B m at (Pair l a b d c e) = Stands m at l a b × Stands m (b + 1) d c e
-Placed B m at (Fault n p) = (at ≤ p) × (at ≤ length m → p ≤ length m)
+-- the answer's places are right; a refusal is at the field or at the data behind it, and names no member
+abbrev pub Placed : List Record → List ℕ → ℕ → Result Grabbed Refused → Type 0
+Placed B m at (Ok (Single f y)) = (y ≡ type_of B f.tag) × Stands m at f.tag f.start f.end
+Placed B m at (Ok (Pair l d)) = Stands m at l.tag l.start l.end × Stands m (l.end + 1) d.tag d.start d.end
+Placed B m at (Err r) = (at ≤ r.at) × (at ≤ length m → r.at ≤ length m) × (tag_of r.why ≡ 0)
 
-abbrev pub Takes : List Record → List ℕ → ℕ → Grab → Grabbed → Type 0
+abbrev pub Takes : List Record → List ℕ → ℕ → Grab → Result Grabbed Refused → Type 0
 Takes B m at g r = (taken m r ≡ g) × Placed B m at r
 
 -- what the book declares of a tag: datatype and partner

@@ -1,103 +1,117 @@
 // Where an instance or the message ends, or a tag leads no further.
-ghost use Rattle.std.specs.Prelude.{◌≡◌, Bool, false, cond, ◌&&◌, ◌||◌, List, [], ℕ};
-ghost use Rattle.book.specs.Records.{members_of, records, is_bounded};
+ghost use Rattle.std.specs.Prelude.{◌≡◌, Bool, false, cond, ◌||◌, List, [], ℕ};
+ghost use Rattle.book.specs.Records.{members_of};
 ghost use Rattle.reader.specs.Fields.{peek};
-ghost use Rattle.reader.specs.Items.{is_first, starts, has_place};
+ghost use Rattle.reader.specs.Items.{starts};
 ghost use Rattle.reader.specs.Filling.{poor, late_fill, f_refuse, f_close};
-ghost use Rattle.reader.specs.Met.{miss_of, page_of, outer_by, Says};
+ghost use Rattle.reader.specs.Met.{miss_of, page_of, ends_by, Says};
 
-use crate::lists::{begins, has_place, has_tag, is_bounded, is_first, is_open};
+use crate::lists::{has_tag, is_first};
+use crate::page::Page;
+use crate::refusal::{Refusal, Refused};
 use crate::{Open, Step};
 
-// A data with a place in this message, without its Length before it.
-fn unpaired(book: &[u8], own: &[u8], tag: u32) -> bool
-    ensures { result ≡ (is_bounded (records book.now) tag && has_place (page_of book.now own.now) tag) }
-{
-    if !is_bounded(book, tag) {
-        return false;
-    }
-    has_place(book, own, tag)
+// The tag that stands at a place.
+#[derive(Clone, Copy, Debug, PartialEq, Eq)]
+pub struct Head {
+    pub tag: u32,
+    pub at: usize,
 }
+
+// A tag that is watched for, and whether it was in the instance.
+#[derive(Clone, Copy, Debug, PartialEq, Eq)]
+pub struct Watch {
+    pub tag: u32,
+    pub hit: bool,
+}
+
+// A group that is being read: its list, and the groups that are open around it.
+#[derive(Clone, Copy, Debug)]
+pub struct Group<'a> {
+    pub page: Page<'a>,
+    pub list: &'a [u8],
+    pub around: Open,
+}
+
+// What stands where no tag of good form does.
+const TORN: u32 = 65537;
 
 // A member already in this instance 10, one earlier in the list 9; of a tag that is not watched it is not known.
-fn late(tag: u32, hit: bool, watch: u32, at: usize) -> Step
-    ensures { (s : List ℕ) (k : ℕ) → peek s ≡ tag → Says s at k (late_fill watch hit s) result }
+fn late(head: Head, watch: Watch) -> Result<Step, Refused>
+    ensures { (s : List ℕ) (k : ℕ) → peek s ≡ head.tag → Says s head.at k (late_fill watch.tag watch.hit s) result }
 {
-    if tag != watch {
-        return Step::Ask(tag);
+    if head.tag != watch.tag {
+        return Ok(Step::Ask(head.tag));
     }
-    if hit {
-        return Step::Refused(10, 0, at);
-    }
-    Step::Refused(9, 0, at)
+    let why = if watch.hit {
+        Refusal::Twice
+    } else {
+        Refusal::Place
+    };
+    Err(why.at(head.at))
 }
 
-pub fn refuse(
-    book: &[u8],
-    own: &[u8],
-    list: &[u8],
-    tag: u32,
-    hit: bool,
-    watch: u32,
-    at: usize,
-) -> Step
-    ensures { (s : List ℕ) (k : ℕ) → peek s ≡ tag → Says s at k (f_refuse (page_of book.now own.now) watch (members_of list.now) hit s) result }
+// A tag that leads no further; in the list of the instance in hand it comes late.
+#[tactic(auto, unfolding(crate::specs::Filling::f_refuse))]
+pub fn refuse(page: &Page, list: &[u8], head: Head, watch: Watch) -> Result<Step, Refused>
+    ensures { (s : List ℕ) (k : ℕ) → peek s ≡ head.tag
+        → Says s head.at k (f_refuse (page_of page.now) watch.tag (members_of list.now) watch.hit s) result }
 {
-    if tag == 65537 {
-        return Step::Refused(8, 0, at);
+    if head.tag == TORN {
+        return Err(Refusal::Form.at(head.at));
     }
-    if unpaired(book, own, tag) {
-        return Step::Refused(12, 0, at);
+    if page.is_unpaired(head.tag) {
+        return Err(Refusal::Pair.at(head.at));
     }
-    if has_tag(list, tag) {
-        return late(tag, hit, watch, at);
+    if has_tag(list, head.tag) {
+        return late(head, watch);
     }
-    Step::Refused(9, 0, at)
+    Err(Refusal::Place.at(head.at))
 }
 
-// The end of an instance, where its list is at its end.
-pub fn close(
-    book: &[u8],
-    own: &[u8],
-    list: &[u8],
-    groups: Open,
-    tag: u32,
-    hit: bool,
-    miss: u32,
-    watch: u32,
-    at: usize,
-    k: usize,
-) -> Step
-    ensures { (s : List ℕ) → peek s ≡ tag
-        → Says s at k (f_close (page_of book.now own.now) watch (members_of list.now)
-        (λ u. is_first (members_of list.now) u || outer_by book.now own.now groups u) hit (miss_of miss) at s) result }
-{
-    if !(is_first(list, tag) | is_open(book, own, groups, tag)) {
-        return refuse(book, own, list, tag, hit, watch, at);
+impl Group<'_> {
+    // An instance may end with this tag behind it.
+    fn may_end(&self, tag: u32) -> bool
+        ensures { result ≡ ends_by self.now tag }
+    {
+        is_first(self.list, tag) || self.page.is_open(self.around, tag)
     }
-    if miss != 65536 {
-        return Step::Refused(14, miss, at);
-    }
-    Step::Done(at, k)
-}
 
-// A tag with which no instance begins, where one is due.
-pub fn no_instance(
-    book: &[u8],
-    own: &[u8],
-    list: &[u8],
-    groups: Open,
-    tag: u32,
-    watch: u32,
-    at: usize,
-) -> Step
-    ensures { (s : List ℕ) (k : ℕ) → peek s ≡ tag
-        → Says s at k (cond (starts (page_of book.now own.now) (members_of list.now) (peek s)
-        || (is_first (members_of list.now) (peek s) || outer_by book.now own.now groups (peek s)))
-        (poor 13 0 s) (f_refuse (page_of book.now own.now) watch [] false s)) result }
-{
-    if begins(book, list, tag) | is_first(list, tag) | is_open(book, own, groups, tag) {
-        return Step::Refused(13, 0, at);
+    // The end of an instance, where its list is at its end.
+    #[tactic(auto, unfolding(crate::specs::Filling::f_close))]
+    pub fn close(
+        &self,
+        head: Head,
+        watch: Watch,
+        missing: Option<u32>,
+        row: usize,
+    ) -> Result<Step, Refused>
+        ensures { (s : List ℕ) → peek s ≡ head.tag
+            → Says s head.at row (f_close (page_of self.now.page) watch.tag (members_of self.now.list.now) (ends_by self.now) watch.hit (miss_of missing) head.at s) result }
+    {
+        if !self.may_end(head.tag) {
+            return refuse(&self.page, self.list, head, watch);
+        }
+        match missing {
+            Some(tag) => Err(Refusal::Missing(tag).at(head.at)),
+            None => Ok(Step::Done { at: head.at, row }),
+        }
     }
-    refuse(book, own, &list[0..0], tag, false, watch, at)
+
+    // A tag with which no instance begins, where one is due.
+    #[tactic(auto, unfolding(book::specs::Records::members_of))]
+    pub fn no_instance(&self, head: Head, watch: u32) -> Result<Step, Refused>
+        ensures { (s : List ℕ) (k : ℕ) → peek s ≡ head.tag
+            → Says s head.at k (cond (starts (page_of self.now.page) (members_of self.now.list.now) (peek s) || ends_by self.now (peek s))
+            (poor 13 0 s) (f_refuse (page_of self.now.page) watch [] false s)) result }
+    {
+        if self.page.begins(self.list, head.tag) || self.may_end(head.tag) {
+            return Err(Refusal::Instances.at(head.at));
+        }
+        let watch = Watch {
+            tag: watch,
+            hit: false,
+        };
+        refuse(&self.page, &[], head, watch)
+    }
 }

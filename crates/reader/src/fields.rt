@@ -1,138 +1,129 @@
 // A field taken off the message without its last seven bytes, from a place on. Total on any bytes.
-ghost use Rattle.std.specs.Prelude.{◌≡◌, List, ℕ, ◌+◌, ◌-◌, ◌<◌, ◌≤◌, min, eqb, length, take, drop};
+ghost use Rattle.std.specs.Prelude.{◌≡◌, List, ℕ, ◌+◌, ◌-◌, ◌<◌, ◌≤◌, min, eqb, length, take, drop, MatchOption};
 ghost use Rattle.numbers.specs.Decimal.{value};
 ghost use Rattle.numbers.specs.Scan.{leading_digits};
 ghost use Rattle.book.specs.Records.{Record, records, partner};
+ghost use Rattle.book.specs.Answers.{type_told, partner_told};
 ghost use Rattle.message.specs.Rows.{lead};
-ghost use Rattle.reader.specs.Fields.{cut, tag_in, peek, valued, data_of, grab};
+ghost use Rattle.reader.specs.Fields.{cut, cut_at, torn, tag_in, peek, valued, data_of, grab};
 ghost use Rattle.reader.specs.Taken.{between, Stands, Takes, Known, filled};
 
-use crate::Grabbed;
+use crate::frame::cut;
+use crate::refusal::{Refusal, Refused};
+use crate::{Field, Grabbed};
+use book::Declared;
 use book::lookup::declared;
-use forms::of_type;
-use numbers::scan::{Number, number_at, seek, value_capped_at};
+use forms::{Datatype, of_type};
+use numbers::scan::{Number, number_at, value_capped_at};
 use numbers::{byte_at, part};
 
-// The tag that stands here and the place of its `=`; 65,536 for every larger one, 65,537 where none of good form stands.
-fn tag_at(m: &[u8], at: usize) -> Number
-    ensures { (result.value ≡ tag_in (cut 61 (drop at m.now))) × (result.end ≡ at + length (leading_digits (drop at m.now))) }
+// The tag of good form that stands here, 65,536 for every larger one, and the place of its `=`.
+fn tag_at(m: &[u8], at: usize) -> Option<Number>
+    ensures { MatchOption result (torn ≡ tag_in (cut 61 (drop at m.now)))
+        (λ n. (n.value ≡ tag_in (cut 61 (drop at m.now))) × (n.end ≡ at + length (leading_digits (drop at m.now))) × (n.value ≤ 65536)) }
 {
     let n = number_at(m, at);
-    let end = n.end;
-    if (byte_at(m, at) != 48) & (at < end) & (byte_at(m, end) == 61) {
-        return n;
+    if byte_at(m, at) != b'0' && at < n.end && byte_at(m, n.end) == b'=' {
+        return Some(n);
     }
-    Number {
-        value: 65537,
-        end: end,
-    }
+    None
 }
 
-// The same, and 0 at the end.
+// The same as a number: 65,537 where no tag of good form stands, and 0 at the end.
 pub fn peek(m: &[u8], at: usize) -> u32
     ensures { result ≡ peek (drop at m.now) }
 {
     if m.len() <= at {
         return 0;
     }
-    let n = tag_at(m, at);
-    n.value as u32
+    match tag_at(m, at) {
+        Some(n) => n.value as u32,
+        None => 65537,
+    }
 }
 
 // What a count's text says, capped.
 pub fn count_of(m: &[u8], a: usize, b: usize) -> usize
     ensures { result ≡ min (value (take (b - a) (drop a m.now))) 65536 }
 {
-    if b < a {
-        return 0;
-    }
-    value_capped_at(part(m, a, b - a), 65536)
+    value_capped_at(part(m, a, b.saturating_sub(a)), 65536)
 }
 
-// A Length says how many bytes the data behind it has; a data is bounded by it.
-fn is_length(datatype: u16) -> bool
-    ensures { result ≡ eqb datatype 5 }
+// The data from a place on, as many bytes as its Length says.
+fn data_at(m: &[u8], field: Field, tag: u16, start: usize) -> Result<Grabbed, Refused>
+    requires { (field.start ≤ field.end) × (field.end < length m.now) × (start ≤ length m.now) }
+    ensures { (B : List Record) (at : ℕ) → Stands m.now at field.tag field.start field.end → start ≡ field.end + 1 + lead tag
+        → Takes B m.now at (filled B field.tag (between m.now field.start field.end) (drop (field.end + 1) m.now) tag (drop start m.now)) result }
 {
-    datatype == 5
-}
-
-fn is_bounded(datatype: u16) -> bool
-    ensures { result ≡ eqb datatype 10 }
-{
-    datatype == 10
-}
-
-// The data from a place on, as many bytes as its Length from a to b says.
-fn data_at(m: &[u8], tag: u16, a: usize, b: usize, other: u16, from: usize) -> Grabbed
-    requires { (a ≤ b) × (b < length m.now) × (from ≤ length m.now) }
-    ensures { (B : List Record) (at : ℕ) → Stands m.now at tag a b → from ≡ b + 1 + lead other → Takes B m.now at (filled B tag (between m.now a b) (drop (b + 1) m.now) other (drop from m.now)) result }
-{
-    let n = value_capped_at(&m[a..b], m.len());
+    let at = field.end + 1;
+    let n = value_capped_at(&m[field.start..field.end], m.len());
     if n == 0 {
-        return Grabbed::Fault(8, b + 1);
+        return Err(Refusal::Form.at(at));
     }
-    if m.len() - from <= n {
-        return Grabbed::Fault(12, b + 1);
+    let end = start + n;
+    if byte_at(m, end) != 1 {
+        return Err(Refusal::Pair.at(at));
     }
-    let end = from + n;
-    if m[end] != 1 {
-        return Grabbed::Fault(12, b + 1);
-    }
-    Grabbed::Pair(tag, a, b, other, from, end)
+    Ok(Grabbed::Pair {
+        length: field,
+        data: Field { tag, start, end },
+    })
 }
 
 // The data behind a Length: its tag is to be the partner's.
-fn data_behind(m: &[u8], tag: u16, a: usize, b: usize, other: u16) -> Grabbed
-    requires { (a ≤ b) × (b < length m.now) }
-    ensures { (B : List Record) (at : ℕ) → other ≡ partner B tag → Stands m.now at tag a b → Takes B m.now at (data_of B tag (between m.now a b) (drop (b + 1) m.now) (cut 61 (drop (b + 1) m.now))) result }
+fn data_behind(m: &[u8], field: Field, other: u16) -> Result<Grabbed, Refused>
+    requires { (field.start ≤ field.end) × (field.end < length m.now) }
+    ensures { (B : List Record) (at : ℕ) → other ≡ partner B field.tag → Stands m.now at field.tag field.start field.end
+        → Takes B m.now at (data_of B field.tag (between m.now field.start field.end) (drop (field.end + 1) m.now) (cut 61 (drop (field.end + 1) m.now))) result }
 {
-    let at = b + 1;
+    let at = field.end + 1;
     if m.len() <= at {
-        return Grabbed::Fault(12, at);
+        return Err(Refusal::Pair.at(at));
     }
-    let h = tag_at(m, at);
-    let found = h.value;
-    let end = h.end;
-    if found == 65537 {
-        return Grabbed::Fault(8, at);
+    let n = tag_at(m, at).ok_or(Refusal::Form.at(at))?;
+    if n.value != usize::from(other) {
+        return Err(Refusal::Pair.at(at));
     }
-    if found != (other as usize) {
-        return Grabbed::Fault(12, at);
-    }
-    data_at(m, tag, a, b, other, end + 1)
+    data_at(m, field, other, n.end + 1)
 }
 
-// The value of a field whose tag is known.
-fn value_at(m: &[u8], at: usize, from: usize, tag: u16, datatype: u16, other: u16) -> Grabbed
-    ensures { (B : List Record) → Known B tag datatype other → from ≡ at + lead tag → Takes B m.now at (valued B tag (drop at m.now) (cut 1 (drop from m.now))) result }
+// The field at a place, if it is of its datatype, and the data behind it where it is a Length.
+fn typed(m: &[u8], at: usize, field: Field, known: Option<Declared>) -> Result<Grabbed, Refused>
+    requires { (field.start ≤ field.end) × (field.end < length m.now) }
+    ensures { (B : List Record) → Known B field.tag (type_told known) (partner_told known) → Stands m.now at field.tag field.start field.end
+        → Takes B m.now at (valued B field.tag (drop at m.now) (cut_at (between m.now field.start field.end) (drop (field.end + 1) m.now))) result }
 {
-    let end = seek(m, from, 1);
-    if (m.len() <= end) | (end == from) {
-        return Grabbed::Fault(8, at);
+    let wrong = Refusal::Datatype.at(at);
+    let Some(known) = known else {
+        return Err(wrong);
+    };
+    if !of_type(known.datatype, &m[field.start..field.end]) {
+        return Err(wrong);
     }
-    if !of_type(datatype, &m[from..end]) {
-        return Grabbed::Fault(11, at);
+    if known.is(Datatype::Length) {
+        return data_behind(m, field, known.partner);
     }
-    if is_length(datatype) {
-        return data_behind(m, tag, from, end, other);
-    }
-    Grabbed::Single(tag, datatype, from, end)
+    Ok(Grabbed::Single {
+        field,
+        datatype: known.datatype,
+    })
 }
 
 // The field from a place on, and the data behind it where it is a Length.
-pub fn grab(book: &[u8], m: &[u8], at: usize) -> Grabbed
+pub fn grab(book: &[u8], m: &[u8], at: usize) -> Result<Grabbed, Refused>
     ensures { Takes (records book.now) m.now at (grab (records book.now) (drop at m.now)) result }
 {
-    let h = tag_at(m, at);
-    let found = h.value;
-    let end = h.end;
-    if 65535 < found {
-        return Grabbed::Fault(8, at);
+    let form = Refusal::Form.at(at);
+    let n = tag_at(m, at).ok_or(form)?;
+    let Ok(tag) = u16::try_from(n.value) else {
+        return Err(form);
+    };
+    let known = declared(book, tag);
+    if known.is_some_and(|d| d.is(Datatype::Data)) {
+        return Err(Refusal::Pair.at(at));
     }
-    let tag = found as u16;
-    let d = declared(book, tag);
-    if is_bounded(d.datatype) {
-        return Grabbed::Fault(12, at);
-    }
-    value_at(m, at, end + 1, tag, d.datatype, d.partner)
+    let start = n.end + 1;
+    let (value, _) = cut(&m[start..]).filter(|f| !f.0.is_empty()).ok_or(form)?;
+    let end = start + value.len();
+    typed(m, at, Field { tag, start, end }, known)
 }

@@ -5,42 +5,49 @@ pub mod closing;
 pub mod fields;
 pub mod frame;
 pub mod lists;
+pub mod page;
+pub mod refusal;
 pub mod rows;
 
-// A list walked down to a tag: the place behind its member, or the list's end; and a required member that was passed, 65,536 for none.
-#[derive(Clone, Copy)]
+// A list walked down to a tag: the place behind its member, if the list has one; and the first required member that was passed.
+#[derive(Clone, Copy, Debug, PartialEq, Eq)]
 pub struct Sought {
-    pub found: bool,
-    pub at: usize,
-    pub miss: u32,
+    pub place: Option<usize>,
+    pub missing: Option<u32>,
 }
 
-// Where fields 8, 9 and 35 end, each behind its `|`; or a refusal's number and place.
-#[derive(Clone, Copy)]
-pub enum Framed {
-    Framed(usize, usize, usize),
-    Misframed(u16, usize),
+// Where fields 8, 9 and 35 end, each behind its `|`.
+#[derive(Clone, Copy, Debug, PartialEq, Eq)]
+pub struct Framed {
+    pub version_end: usize,
+    pub length_end: usize,
+    pub type_end: usize,
 }
 
-// A field taken off: tag, datatype, start and end of the value; or a Length and its data, tag, start and end of each; or a refusal's
-// number and place.
-#[derive(Clone, Copy)]
+// A field that stands in the message: its tag, and its value from `start` up to the `|` at `end`.
+#[derive(Clone, Copy, Debug, PartialEq, Eq)]
+pub struct Field {
+    pub tag: u16,
+    pub start: usize,
+    pub end: usize,
+}
+
+// A field taken off, and its datatype; or a Length and its data.
+#[derive(Clone, Copy, Debug, PartialEq, Eq)]
 pub enum Grabbed {
-    Single(u16, u16, usize, usize),
-    Pair(u16, usize, usize, u16, usize, usize),
-    Fault(u16, usize),
+    Single { field: Field, datatype: u16 },
+    Pair { length: Field, data: Field },
 }
 
-// A part that was read: the place behind it and the next row; or a refusal's number, tag and place; or a late tag that is not watched.
-#[derive(Clone, Copy)]
+// A part that was read: the place behind it and the next row; or a late tag that is not watched.
+#[derive(Clone, Copy, Debug, PartialEq, Eq)]
 pub enum Step {
-    Done(usize, usize),
-    Refused(u16, u32, usize),
+    Done { at: usize, row: usize },
     Ask(u32),
 }
 
 // A row of the index: tag, value start, value length, depth, count row, instance.
-#[derive(Clone, Copy)]
+#[derive(Clone, Copy, Debug, PartialEq, Eq)]
 pub struct Line {
     pub tag: u16,
     pub start: u16,
@@ -50,11 +57,5 @@ pub struct Line {
     pub inst: u16,
 }
 
-// The groups that are open around the one in hand, innermost first: the offsets of their records, 65,535 for none.
-#[derive(Clone, Copy)]
-pub struct Open {
-    pub a: u16,
-    pub b: u16,
-    pub c: u16,
-    pub d: u16,
-}
+// The groups that are open around the one in hand, innermost first: the offsets of their records.
+pub type Open = [Option<u16>; 4];

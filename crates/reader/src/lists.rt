@@ -1,162 +1,91 @@
-// Questions on member lists. A tag is a u32: 65,536 stands for every larger one, 65,537 where none stands.
-ghost use Rattle.std.specs.Prelude.{◌≡◌, ℕ, ◌≤◌, List, length, drop};
-ghost use Rattle.book.specs.Records.{Member, members_of, records, is_bounded};
+// Questions on member lists. A tag is a u32: 0 stands for the end, 65,536 for every larger one, 65,537 where none stands.
+// kept: tags are u32, since the public functions answer for every u32, and a narrower type would ask more of a caller.
+ghost use Rattle.std.specs.Prelude.{◌≡◌, ◌≤◌, IfSome, length, drop};
+ghost use Rattle.book.specs.Records.{members_of, records, is_bounded};
+ghost use Rattle.book.specs.Lists.{member_in};
 ghost use Rattle.message.specs.Permitted.{has_tag, note};
-ghost use Rattle.reader.specs.Items.{is_first, starts, stands_in, stands_under, has_place};
+ghost use Rattle.reader.specs.Items.{is_first, stands_in, stands_under};
 ghost use Rattle.reader.specs.Filling.{seek_in};
-ghost use Rattle.reader.specs.Met.{miss_of, sought_in, list_at, page_of, outer_by};
+ghost use Rattle.reader.specs.Met.{miss_of, sought_in};
 
-use crate::{Open, Sought};
+use crate::Sought;
+use book::list::{Member, Members};
 use book::lookup::{declared, group_list};
-use book::records::record_members;
-use numbers::{rest, u16_at};
-
-fn wide(n: u16) -> u32
-    ensures { result ≡ n }
-{
-    n as u32
-}
+use forms::Datatype;
 
 pub fn has_tag(list: &[u8], tag: u32) -> bool
     ensures { result ≡ has_tag tag (members_of list.now) }
 {
-    let mut i = 0;
-    while 4 <= list.len() - i {
-        if tag == wide(u16_at(list, i)) {
-            return true;
-        }
-        i += 4;
-    }
-    false
+    Members::of(list).any(|m| tag == u32::from(m.tag))
 }
 
 pub fn is_first(list: &[u8], tag: u32) -> bool
     ensures { result ≡ is_first (members_of list.now) tag }
 {
-    if list.len() < 4 {
-        return false;
-    }
-    tag == wide(u16_at(list, 0))
+    Members::of(list)
+        .next()
+        .is_some_and(|m| tag == u32::from(m.tag))
 }
 
 pub fn is_bounded(book: &[u8], tag: u32) -> bool
     ensures { result ≡ is_bounded (records book.now) tag }
 {
-    if 65535 < tag {
+    let Ok(tag) = u16::try_from(tag) else {
         return false;
-    }
-    let d = declared(book, tag as u16);
-    d.datatype == 10
-}
-
-// A field may begin with this tag in this list.
-pub fn begins(book: &[u8], list: &[u8], tag: u32) -> bool
-    ensures { (own : List Member) → result ≡ starts (record { book = records book.entry.now; own = own }) (members_of list.now) tag }
-{
-    if !has_tag(list, tag) {
-        return false;
-    }
-    !is_bounded(book, tag)
-}
-
-fn begins_at(book: &[u8], at: u16, tag: u32) -> bool
-    ensures { (own : List Member) → result ≡ starts (record { book = records book.entry.now; own = own }) (list_at book.entry.now at) tag }
-{
-    begins(book, record_members(rest(book, at as usize)), tag)
-}
-
-pub fn is_open(book: &[u8], own: &[u8], groups: Open, tag: u32) -> bool
-    ensures { result ≡ outer_by book.now own.now groups tag }
-{
-    if begins_at(book, groups.a, tag) {
-        return true;
-    }
-    if begins_at(book, groups.b, tag) {
-        return true;
-    }
-    if begins_at(book, groups.c, tag) {
-        return true;
-    }
-    if begins_at(book, groups.d, tag) {
-        return true;
-    }
-    if tag == 0 {
-        return true;
-    }
-    begins(book, own, tag)
+    };
+    declared(book, tag).is_some_and(|d| d.is(Datatype::Data))
 }
 
 // The first required member that is missing stays noted; a data stands and falls with its Length.
-fn noted(book: &[u8], miss: u32, tag: u16, flag: u16) -> u32
-    ensures { miss_of result ≡ note (records book.now) (miss_of miss) (record { tag = tag; flag = flag }) }
+#[tactic(auto, unfolding(message::specs::Permitted::note))]
+fn noted(book: &[u8], missing: Option<u32>, m: Member) -> Option<u32>
+    ensures { miss_of result ≡ note (records book.now) (miss_of missing) (member_in m) }
 {
-    if miss != 65536 {
-        return miss;
+    let tag = u32::from(m.tag);
+    if missing.is_none() && m.flag == 1 && !is_bounded(book, tag) {
+        return Some(tag);
     }
-    if flag != 1 {
-        return 65536;
-    }
-    let t = wide(tag);
-    if is_bounded(book, t) {
-        return 65536;
-    }
-    t
+    missing
 }
 
 // Down a list from a place on, to the member with that tag.
-pub fn seek(book: &[u8], list: &[u8], from: usize, tag: u32, miss: u32) -> Sought
+pub fn seek(book: &[u8], list: &[u8], from: usize, tag: u32, mut missing: Option<u32>) -> Sought
     requires { from ≤ length list.now }
-    ensures { (sought_in list.now result ≡ seek_in (records book.now) (miss_of miss) (members_of (drop from list.now)) tag) × (result.at ≤ length list.now) }
+    ensures walked { sought_in list.now result ≡ seek_in (records book.now) (miss_of missing) (members_of (drop from list.now)) tag }
+    ensures inside { IfSome result.place (λ place. place ≤ length list.now) }
 {
-    let mut m = miss;
-    let mut i = from;
-    while 4 <= list.len() - i {
-        let t = u16_at(list, i);
-        let flag = u16_at(list, i + 2);
-        i += 4;
-        if tag == wide(t) {
+    // kept: the place behind the member is counted, since enumerate gives an index and the place would be from + 4 * (i + 1).
+    let mut at = from;
+    for m in Members::of(&list[from..]) {
+        at += 4;
+        if tag == u32::from(m.tag) {
             return Sought {
-                found: true,
-                at: i,
-                miss: m,
+                place: Some(at),
+                missing,
             };
         }
-        m = noted(book, m, t, flag);
+        missing = noted(book, missing, m);
     }
     Sought {
-        found: false,
-        at: i,
-        miss: m,
+        place: None,
+        missing,
     }
 }
 
 // Whether the tag stands in the list, or in a group opened below it, so many levels deep at most.
-fn stands_in(book: &[u8], list: &[u8], tag: u32, depth: usize) -> bool
+pub(crate) fn stands_in(book: &[u8], list: &[u8], tag: u32, depth: usize) -> bool
     ensures { result ≡ stands_in (stands_under (records book.now) depth tag) tag (members_of list.now) }
 {
-    let mut i = 0;
-    while 4 <= list.len() - i {
-        let t = u16_at(list, i);
-        i += 4;
-        if tag == wide(t) {
+    for m in Members::of(list) {
+        if tag == u32::from(m.tag) {
             return true;
         }
-        if depth == 0 {
-            continue;
-        }
-        let d = declared(book, t);
-        if d.datatype != 7 {
-            continue;
-        }
-        if stands_in(book, group_list(book, t), tag, depth - 1) {
+        if depth > 0
+            && declared(book, m.tag).is_some_and(|d| d.is(Datatype::NumInGroup))
+            && stands_in(book, group_list(book, m.tag), tag, depth - 1)
+        {
             return true;
         }
     }
     false
-}
-
-pub fn has_place(book: &[u8], own: &[u8], tag: u32) -> bool
-    ensures { result ≡ has_place (page_of book.now own.now) tag }
-{
-    stands_in(book, own, tag, 4)
 }

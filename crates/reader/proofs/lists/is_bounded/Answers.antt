@@ -1,8 +1,6 @@
-use Rattle.reader.proofs.ListLaws.{large_free, bounded_is}
+use Rattle.std.proofs.Common.{arith}
+use Rattle.reader.proofs.ListLaws.{large_free}
 use Rattle.reader.proofs.lists.is_bounded.Goals as goal
 
-pub returns-then-tag-gt65535 : goal.returns-then-tag-gt65535
-returns-then-tag-gt65535 c = large_free _ _ (λ i. (c.shared_slice_known-1.given i).fits) c.if-tag-gt65535.true
-
-pub returns : goal.returns
-returns c = bounded_is _ _ _ c.declared-d.ensures.0
+pub returns-in_default : goal.returns-in_default
+returns-in_default c = large_free _ _ (λ i. (c.type_inv.book i).fits) (omega (arith, c.in_default.ensures))

@@ -1,24 +1,15 @@
-use Rattle.reader.proofs.ListLaws.{seek_start, seek_hit, seek_turn, seek_end}
-use lib.ListN.{length}
-use native.Mathlib.Omega.{arith}
-use Prim.Native.Nat.{◌+◌, ◌≤◌}
+use Rattle.book.specs.Lists.{member_in}
+use Rattle.reader.proofs.ListLaws.{seek_hit, seek_inside, seek_turn, seek_end}
 use Rattle.reader.proofs.lists.seek.Goals as goal
 
-pub loop-i-init : goal.loop-i-init
-loop-i-init c = seek_start _ _ _ _ _ c.requires
+pub returns-then-tag-from-clause-walked : goal.returns-then-tag-from-clause-walked
+returns-then-tag-from-clause-walked c = seek_hit _ _ _ _ _ _ _ _ c.loop-m.invariant.2 (member_in c.in-Some.m) _ c.in-Some.ensures.steps _ c.from.ensures c.if-tag-from.true
 
-pub returns-then-tag-wide : goal.returns-then-tag-wide
-returns-then-tag-wide c = let l = c.loop-i in
-    let h : l.i + 4 ≤ length c.args.list.now = omega (arith, l.invariant.inside, c.loop-i-test.true) in
-    (seek_hit _ _ _ _ _ _ _ l.invariant h _ _ _ c.u16_at-t.ensures c.u16_at-flag.ensures c.wide.ensures c.if-tag-wide.true, h)
+pub returns-then-tag-from-clause-inside : goal.returns-then-tag-from-clause-inside
+returns-then-tag-from-clause-inside c = seek_inside _ _ _ _ _ _ _ _ c.loop-m.invariant.2 (member_in c.in-Some.m) _ c.in-Some.ensures.steps
 
-pub loop-i-smaller : goal.loop-i-smaller
-loop-i-smaller c = omega (arith, c.loop-i.invariant.inside, c.loop-i-test.true)
+pub loop-m-preserved : goal.loop-m-preserved
+loop-m-preserved c = (tt, tt, seek_turn _ _ _ _ _ _ _ _ c.loop-m.invariant.2 (member_in c.in-Some.m) _ c.in-Some.ensures.steps _ c.from.ensures c.if-tag-from.false _ c.noted-missing.ensures)
 
-pub loop-i-preserved : goal.loop-i-preserved
-loop-i-preserved c = let l = c.loop-i in
-    let h : l.i + 4 ≤ length c.args.list.now = omega (arith, l.invariant.inside, c.loop-i-test.true) in
-    seek_turn _ _ _ _ _ _ _ l.invariant h _ _ _ c.u16_at-t.ensures c.u16_at-flag.ensures c.wide.ensures c.if-tag-wide.false _ c.noted-m.ensures
-
-pub returns : goal.returns
-returns c = (seek_end _ _ _ _ _ _ _ c.loop-i.invariant (omega (arith, c.loop-i.invariant.inside, c.loop-i-test.false)), c.loop-i.invariant.inside)
+pub returns-clause-walked : goal.returns-clause-walked
+returns-clause-walked c = seek_end _ _ _ _ _ _ _ _ c.loop-m.invariant.2 c.in-None.ensures.steps.0

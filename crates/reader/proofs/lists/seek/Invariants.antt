@@ -1,11 +1,9 @@
-use Rattle.reader.proofs.ListLaws.{Seeking}
 use Rattle.book.specs.Records.{records}
-use lib.ListN.{length}
-use Prim.Native.Nat.{◌-◌}
+use Rattle.book.specs.Lists.{members_left}
+use Rattle.reader.proofs.ListLaws.{Seeking}
 use Rattle.reader.proofs.lists.seek.Given as goal
 
-abbrev pub invariant-loop-i : goal.invariant-loop-i
-invariant-loop-i l = Seeking (records l.book) l.list l.from l.tag l.miss l.i l.m
-
-abbrev pub decreases-loop-i : goal.decreases-loop-i
-decreases-loop-i l = length l.list - l.i
+abbrev pub invariant-loop-m : goal.invariant-loop-m
+invariant-loop-m l =
+    (goal.iterator-loop-m).can_next l.m-iterator × (goal.iterator-loop-m).is_finite l.m-iterator
+    × Seeking (records l.book) l.list l.from l.tag l.fn.missing l.at l.missing (members_left l.m-iterator)
