@@ -2,7 +2,7 @@
 use mathlib.Core.Path.{◌≡◌, refl, sym, ◌∙◌}
 use mathlib.Core.Bool.{cond}
 use mathlib.Core.List.{List, [], ◌∷◌}
-use Prim.Native.Nat.{ℕ, zero, suc, ◌+◌, ◌-◌, ◌*◌, ◌/◌, ◌≤◌, ◌<◌}
+use Prim.Native.Nat.{ℕ, ◌+◌, ◌-◌, ◌*◌, ◌/◌, ◌≤◌, ◌<◌}
 use native.Mathlib.Omega.{arith}
 use native.Mathlib.Numerals.{add-one}
 use lib.Dec.{eqb, ltb}
@@ -58,22 +58,6 @@ members_count (a ∷ []) = refl
 members_count (a ∷ b ∷ []) = refl
 members_count (a ∷ b ∷ c ∷ []) = refl
 members_count (a ∷ b ∷ c ∷ d ∷ s) = let h : length (members_of s) ≡ length s / 4 = members_count s in omega arith
-
--- from the k-th member on
-pub members_later : (k : ℕ) (l : List ℕ) → members_of (drop (k * 4) l) ≡ drop k (members_of l)
-unfolding members_of
-members_later zero l = refl
-members_later (suc k) l = rw four (go l (members_later k))
-  where
-    four : suc k * 4 ≡ suc (suc (suc (suc (k * 4))))
-    four = omega arith
-
-    go : (l : List ℕ) → ((s : List ℕ) → members_of (drop (k * 4) s) ≡ drop k (members_of s)) → members_of (drop (suc (suc (suc (suc (k * 4))))) l) ≡ drop (suc k) (members_of l)
-    go [] h = refl
-    go (a ∷ []) h = refl
-    go (a ∷ b ∷ []) h = refl
-    go (a ∷ b ∷ c ∷ []) h = refl
-    go (a ∷ b ∷ c ∷ d ∷ s) h = h s
 
 -- what `position` answers, or the count of the members where it finds none
 pub place_found : (ms : List Member) (t n : ℕ) (r : Option ℕ) → n ≡ length ms

@@ -1,5 +1,5 @@
 -- What the code's answers and maps say, in the definitions' words. Assumes nothing.
-use Rattle.std.specs.Prelude.{◌≡◌, Bool, true, false, ◌&&◌, ℕ, ◌<◌, List, eqb, length, get_or, Option, Some, None, Result, Ok, Err}
+use Rattle.std.specs.Prelude.{◌≡◌, Bool, true, false, ◌&&◌, ℕ, ◌<◌, List, eqb, length, drop, get_or, Option, Some, None, Result, Ok, Err}
 use Rattle.numbers.specs.Bytes.{mem}
 use Rattle.numbers.specs.Bits.{bit_at}
 use Rattle.book.specs.declared.Declared.{Declared}
@@ -7,15 +7,20 @@ use Rattle.book.specs.declared.records.Record as Code
 use Rattle.book.specs.declared.checking.Rule.{Rule}
 use Rattle.book.specs.declared.checking.Rule.TheVariants.{R1, R2, R3, R4, R5, R6, R7, R8, R9}
 use Rattle.book.specs.declared.checking.Broken.{Broken}
-use Rattle.book.specs.Records.{Record, is_field, LookUp, nothing, found, look_up, is_found, is_length, is_bounded}
+use Rattle.book.specs.Records.{Record, record_at, is_field, LookUp, nothing, found, look_up, is_found, is_length, is_bounded}
 use Rattle.book.specs.Rules.{Opened, once, conflict}
 use Rattle.book.specs.Check.{Verdict, sound, broken}
 use Rattle.book.specs.Walked.{record_in}
 
 -- what a look-up finds
-abbrev pub found_in : Option Code.Record → LookUp
-found_in None = nothing
-found_in (Some r) = found (record_in r)
+abbrev pub look_of : Option Code.Record → LookUp
+look_of None = nothing
+look_of (Some r) = found (record_in r)
+
+-- the record at that offset of the book
+abbrev pub found_in : List ℕ → Option Code.Record → LookUp
+found_in book None = nothing
+found_in book (Some r) = found (record_at r.offset (drop r.offset book))
 
 -- what a tag is declared as: datatype, 0 for none, and partner
 abbrev pub type_told : Option Declared → ℕ

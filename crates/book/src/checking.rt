@@ -8,11 +8,11 @@ ghost use Rattle.book.specs.Check.{first, rule_of, rules_from, check};
 ghost use Rattle.book.specs.Walked.{record_in};
 ghost use Rattle.book.specs.Answers.{rule_number, told, is_marked, Seen, Opens};
 
-use crate::Declared;
 use crate::list::Members;
 use crate::lookup::{group_list, is_count};
 use crate::records::{Kind, Record, Records, first_bad_record};
 use crate::rules::{Declaring, Pairing, breaks_2, breaks_3, breaks_4, breaks_7, breaks_8};
+use crate::{Declared, Map};
 use forms::Datatype;
 use numbers::bits::{mark, test};
 
@@ -46,7 +46,7 @@ pub struct Broken {
 }
 
 // Puts into the map the tags of the fields whose datatype is picked.
-fn mark_fields<F: Fn(Declared) -> bool>(book: &[u8], map: &mut [u8; 8192], picks: F)
+fn mark_fields<F: Fn(Declared) -> bool>(book: &[u8], map: &mut Map, picks: F)
     requires { F.IsAlwaysCallable picks }
     ensures { (p : ℕ → Bool) → ((d : _) (b : Bool) → F.post picks d b → b ≡ p d.datatype)
         → (t : ℕ) → t < 65536 → bit_at map.new t ≡ is_found (look_up (is_marked p t) (records book.now)) }
@@ -78,7 +78,7 @@ fn first_break<F: Fn(Record) -> bool>(book: &[u8], rule: Rule, breaks: F) -> Res
 }
 
 // Opens a list with its groups, so many levels deep at most; whether a tag stands twice or a group too deep.
-fn open_list(book: &[u8], list: &[u8], depth: usize, map: &mut [u8; 8192]) -> bool
+fn open_list(book: &[u8], list: &[u8], depth: usize, map: &mut Map) -> bool
     ensures { (seen : List ℕ) → Seen map.old seen
         → Opens (open_list (open_group (records book.now) depth) seen (members_of list.now)) result map.new }
 {
@@ -101,7 +101,7 @@ fn open_list(book: &[u8], list: &[u8], depth: usize, map: &mut [u8; 8192]) -> bo
     false
 }
 
-fn breaks_9(book: &[u8], r: Record, map: &mut [u8; 8192]) -> bool
+fn breaks_9(book: &[u8], r: Record, map: &mut Map) -> bool
     ensures { result ≡ rule9 (records book.now) (record_in r.entry) }
 {
     if !r.is(Kind::Message) {
@@ -112,8 +112,8 @@ fn breaks_9(book: &[u8], r: Record, map: &mut [u8; 8192]) -> bool
 }
 
 // Rule 9.
-// kept: rule 9 writes into the map, and no clause of an FnMut says of a later call that it still asks of this book.
-fn first_nested(book: &[u8], map: &mut [u8; 8192]) -> Result<(), Broken>
+// kept: a closure that writes into the one map did not prove as first_break's; with a map of its own the check's stack was 16 KiB, over 10.
+fn first_nested(book: &[u8], map: &mut Map) -> Result<(), Broken>
     ensures { told result ≡ first 9 (rule_of 9 (records book.now)) (records book.now) }
 {
     for r in Records::of(book) {
@@ -128,7 +128,7 @@ fn first_nested(book: &[u8], map: &mut [u8; 8192]) -> Result<(), Broken>
 }
 
 // Rule 5, over a map of the declared tags.
-fn first_undeclared(book: &[u8], map: &mut [u8; 8192]) -> Result<(), Broken>
+fn first_undeclared(book: &[u8], map: &mut Map) -> Result<(), Broken>
     ensures { told result ≡ first 5 (rule_of 5 (records book.now)) (records book.now) }
 {
     mark_fields(book, map, |_| true);
@@ -137,7 +137,7 @@ fn first_undeclared(book: &[u8], map: &mut [u8; 8192]) -> Result<(), Broken>
 }
 
 // Rule 6, over a map of the tags that are a Length or a data.
-fn first_unpaired(book: &[u8], map: &mut [u8; 8192]) -> Result<(), Broken>
+fn first_unpaired(book: &[u8], map: &mut Map) -> Result<(), Broken>
     ensures { told result ≡ first 6 (rule_of 6 (records book.now)) (records book.now) }
 {
     mark_fields(
@@ -150,7 +150,7 @@ fn first_unpaired(book: &[u8], map: &mut [u8; 8192]) -> Result<(), Broken>
 }
 
 // A rule is asked only where all lower ones hold.
-fn rules(book: &[u8], map: &mut [u8; 8192]) -> Result<(), Broken>
+fn rules(book: &[u8], map: &mut Map) -> Result<(), Broken>
     ensures { told result ≡ rules_from 8 2 (records book.now) }
 {
     first_break(book, Rule::R2, |r| breaks_2(r))?;

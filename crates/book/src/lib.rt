@@ -14,7 +14,11 @@ mod rules;
 
 pub use checking::{Broken, Rule, check};
 
-// What a tag is declared as, in the book's numbers.
+// A bit for each tag.
+type Map = [u8; 8192];
+
+// What a tag is declared as.
+// kept: both are the book's numbers, since type_of and partner in the clauses say any number that a book holds, sound or not.
 #[derive(Clone, Copy, Debug, PartialEq, Eq)]
 pub struct Declared {
     pub datatype: u16,

@@ -4,6 +4,7 @@ ghost use Rattle.std.specs.Iterator.{YieldsFirstBy, item_count};
 ghost use Rattle.book.specs.Lists.{member_in, members_left};
 
 // The flag is 1 for a required member, 0 for an optional one.
+// kept: as the book's number, since before rule 5 it can be any.
 #[derive(Clone, Copy, Debug, PartialEq, Eq)]
 pub struct Member {
     pub tag: u16,

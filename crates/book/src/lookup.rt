@@ -2,7 +2,7 @@
 ghost use Rattle.std.specs.Prelude.{◌≡◌, ℕ};
 ghost use Rattle.book.specs.Records.{members_of, type_text, is_count, is_kind, is_field, is_group, is_message, is_found, members_in, look_up, type_of, partner, group_of, message_of, place_in, records};
 ghost use Rattle.book.specs.Walked.{kind_number, record_in};
-ghost use Rattle.book.specs.Answers.{found_in, type_told, partner_told, is_told};
+ghost use Rattle.book.specs.Answers.{found_in, look_of, type_told, partner_told, is_told};
 
 use crate::Declared;
 use crate::list::Members;
@@ -11,15 +11,16 @@ use forms::Datatype;
 
 // The first record of that kind and tag.
 pub(crate) fn find_of<'a>(book: &'a [u8], kind: Kind, tag: u16) -> Option<Record<'a>>
-    ensures { found_in result ≡ look_up (is_kind (kind_number kind) tag) (records book.now) }
+    ensures { look_of result ≡ look_up (is_kind (kind_number kind) tag) (records book.now) }
 {
     Records::of(book).find(|r| r.is_tagged(kind, tag))
 }
 
 // The same of a kind's number, 0 for a record of no kind.
-// kept: find_record is public and answers for every number, where a Kind asks more of a caller.
+// kept: find_record is public and answers for every number, where a Kind asks more of a caller, so it has a scan of its own.
 pub fn find_record<'a>(book: &'a [u8], kind: u16, tag: u16) -> Option<Record<'a>>
-    ensures { found_in result ≡ look_up (is_kind kind tag) (records book.now) }
+    ensures found { look_of result ≡ look_up (is_kind kind tag) (records book.now) }
+    ensures place { found_in book.now result ≡ look_up (is_kind kind tag) (records book.now) }
 {
     Records::of(book).find(|r| r.tag() == tag && r.number() == kind)
 }
@@ -40,7 +41,8 @@ fn is_message(r: Record, text: &[u8]) -> bool
 
 // The first message of that type text.
 pub fn find_message<'a>(book: &'a [u8], text: &[u8]) -> Option<Record<'a>>
-    ensures { found_in result ≡ look_up (is_message text.now) (records book.now) }
+    ensures found { look_of result ≡ look_up (is_message text.now) (records book.now) }
+    ensures place { found_in book.now result ≡ look_up (is_message text.now) (records book.now) }
 {
     Records::of(book).find(|r| is_message(*r, text))
 }

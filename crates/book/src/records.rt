@@ -59,7 +59,7 @@ pub fn record_members<'a>(s: &'a [u8]) -> &'a [u8]
     ensures { result.now ≡ member_bytes (le16 s.now) (le16 (drop 2 s.now)) s.now }
 {
     let n = usize::from(u16_at(s, 0));
-    if u16_at(s, 2) == 2 {
+    if u16_at(s, 2) == Kind::Message as u16 {
         return part(s, 8, n.saturating_sub(6));
     }
     part(s, 6, n.saturating_sub(4))
@@ -157,6 +157,7 @@ impl<'a> Iterator for Records<'a> {
 }
 
 // Rule 1: the offset at which no record can be taken.
+// kept: that offset is no item of Records, and the last record's offset and size would have to be asked for again.
 pub fn first_bad_record(book: &[u8]) -> usize
     ensures { result ≡ stop book.now }
 {

@@ -6,12 +6,12 @@ ghost use Rattle.book.specs.Records.{members_of, records, type_of, partner, is_l
 ghost use Rattle.book.specs.Records as spec;
 ghost use Rattle.book.specs.Rules.{good_type_text, first_at, partnered, good_members, paired, starts_required, rule2, rule3, rule4, rule5, rule6, rule7, rule8};
 ghost use Rattle.book.specs.Walked.{record_in};
-ghost use Rattle.book.specs.Answers.{found_in, type_told, partner_told, Declares, Pairs};
+ghost use Rattle.book.specs.Answers.{look_of, type_told, partner_told, Declares, Pairs};
 
-use crate::Declared;
 use crate::list::{Member, Members};
 use crate::lookup::{declared, find_message, find_of, has_group, is_count, type_text};
 use crate::records::{Kind, Record};
+use crate::{Declared, Map};
 use forms::Datatype;
 use numbers::bits::test;
 use numbers::rest;
@@ -29,7 +29,7 @@ fn good_type_text(w: &[u8]) -> bool
 // Whether what was found, if anything was, is this record.
 #[tactic(auto, unfolding(crate::specs::Records::record_at))]
 fn is_first(found: Option<Record>, r: Record) -> bool
-    ensures { result ≡ first_at (found_in found.entry) (record_in r.entry).offset }
+    ensures { result ≡ first_at (look_of found.entry) (record_in r.entry).offset }
 {
     found.is_none_or(|first| first.offset == r.offset)
 }
@@ -80,6 +80,7 @@ fn good_partner(book: &[u8], tag: u16, d: Declared) -> bool
     d.partner == 0
 }
 
+// kept: rule 4 says 1 to 16 in numbers, and the must-fail edit type_17 turns the 16.
 #[tactic(auto, unfolding(crate::specs::Rules::rule4))]
 pub fn breaks_4(book: &[u8], r: Record) -> bool
     ensures { result ≡ rule4 (records book.now) (record_in r.entry) }
@@ -92,7 +93,7 @@ pub fn breaks_4(book: &[u8], r: Record) -> bool
 #[derive(Clone, Copy)]
 pub struct Declaring<'a> {
     pub book: &'a [u8],
-    pub map: &'a [u8; 8192],
+    pub map: &'a Map,
     pub ghost holds: { Declares map.now (records book.now) },
 }
 
@@ -149,7 +150,7 @@ fn is_due(d: Option<Declared>, m: Member, due: u16, before: u16) -> bool
 #[derive(Clone, Copy)]
 pub struct Pairing<'a> {
     pub book: &'a [u8],
-    pub map: &'a [u8; 8192],
+    pub map: &'a Map,
     pub ghost holds: { Pairs map.now (records book.now) },
 }
 
@@ -167,7 +168,7 @@ impl<'a> Pairing<'a> {
         None
     }
 
-    // kept: `due` is a partner in the book's form, 0 for none, since a Length whose partner is 0 awaits nothing.
+    // kept: `due` is a partner in the book's form, 0 for none, as in the definition `paired`, where a Length whose partner is 0 awaits nothing.
     fn is_paired(self, list: &[u8]) -> bool
         ensures { result ≡ paired (records self.entry.book.now) 0 0 (members_of list.now) }
     {

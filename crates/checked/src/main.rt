@@ -47,7 +47,7 @@ fn datatype(label: &[u8]) -> Option<u16> {
             _ => {}
         }
     }
-    // No datatype has the number 0: it asks for a book.
+    // kept: no datatype has the number 0, and a label `(0)` asks for a book, as before.
     if n == 0 { None } else { Some(n) }
 }
 

@@ -1,5 +1,6 @@
 // The bytes that the words or the value of a case write. What does not fit is left out.
 use arrayvec::ArrayVec;
+use book::records::Kind;
 use numbers::{byte_at, u16_at};
 
 // More than the 16,384 bytes of the longest book.
@@ -98,18 +99,18 @@ impl Pen {
         }
     }
 
-    // A record with the length 0 so far; its kind is 1 for a field, 2 for a message, 3 for a group.
-    fn begin(&mut self, kind: u16) {
+    // A record with the length 0 so far.
+    fn begin(&mut self, kind: Kind) {
         self.open = Some(self.out.len());
         self.put_number(0);
-        self.put_number(kind);
+        self.put_number(kind as u16);
     }
 
     fn mark(&mut self, b: u8) {
         match b {
-            b'f' => self.begin(1),
-            b'm' => self.begin(2),
-            b'g' => self.begin(3),
+            b'f' => self.begin(Kind::Field),
+            b'm' => self.begin(Kind::Message),
+            b'g' => self.begin(Kind::Group),
             _ => self.open = None,
         }
     }

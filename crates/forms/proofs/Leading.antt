@@ -51,9 +51,6 @@ digits_is (b ∷ s) = go (leb 48 b && leb b 57) (digits_is s)
     go true ih = eqb-suc-suc (leading 48 57 s) (length s) ∙ ih
     go false ih = eqb-zero-suc (length s)
 
-pub digits_at : (s : List ℕ) (k : ℕ) → k ≡ leading 48 57 s → eqb k (length s) ≡ digits s
-digits_at s k e = rw e (digits_is s)
-
 pub len_is : (s : List ℕ) → accepts len s ≡ (ltb 0 (length s) && digits s)
 unfolding len digit_form null digits after
 len_is s = rw (some_is s) (more_is digit_form digit digits refl (λ b s. refl) refl s (λ i. refl))

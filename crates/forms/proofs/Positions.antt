@@ -1,6 +1,6 @@
 -- Fixed layouts: a form of one width, then another, is read at fixed positions. Assumes nothing.
 use mathlib.Core.Path.{◌≡◌, refl, sym, ◌∙◌}
-use Prim.Native.Nat.{ℕ, zero, suc, ◌+◌, ◌-◌, ◌<◌, ◌≤◌, min, zero-le}
+use Prim.Native.Nat.{ℕ, zero, suc, ◌+◌, ◌-◌, ◌≤◌, min, zero-le}
 use native.Mathlib.Nat.{le_of_eq}
 use native.Mathlib.Omega.{arith}
 use mathlib.Core.Bool.{Bool, true, false, ◌&&◌, ◌||◌, or-false, true≢false, false≢true}
@@ -148,6 +148,3 @@ at_least (f ∣ g) s a = go (accepts f s) refl (sym (or_law s f g) ∙ a) (at_le
     go true d o p q = let h = p d in omega arith
     go false d o p q = let h = q o in omega arith
 at_least (many f) s a = zero-le
-
-pub too_short : (f : Form) (s : List ℕ) → length s < least f → accepts f s ≡ false
-too_short f s l = to_false (accepts f s) (λ a. let h = at_least f s a in omega arith)

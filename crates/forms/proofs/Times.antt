@@ -261,12 +261,6 @@ month_rest_wrong s n m =
     (or_law s nil (two 1 31 ∣ byte 119 ▷ one 49 53)
     ∙ rw (empty_is s, ne_eqb (length s) 0 n) (wrong_width (two 1 31 ∣ byte 119 ▷ one 49 53) refl s m))
 
-long_byte : (b : ℕ) (s : List ℕ) → 1 < length s → is_byte b s ≡ false
-unfolding is_byte
-long_byte b [] l = refl
-long_byte b (x ∷ []) l = absurd (omega arith)
-long_byte b (x ∷ y ∷ s) l = refl
-
 colon_offset : (s : List ℕ) → is_byte 58 (take 1 s) ≡ true → accepts offset s ≡ false
 unfolding is_byte offset maybe colon two two_below byte accepts after null alt alt_r seq
 colon_offset [] e = absurd (false≢true e)

@@ -88,6 +88,7 @@ pub fn value<'a>(index: &[u16], message: &'a [u8], k: usize) -> &'a [u8]
     message.get(start..end).unwrap_or_default()
 }
 
+// kept: count, inst and tag are three parameters, since find and find_value are public as they are.
 // The lowest row with this count row, instance and tag. They are compared as wide numbers: one above 65,535 is in no row.
 pub fn find(index: &[u16], count: usize, inst: usize, tag: usize) -> Found
     ensures { found_of result ≡ find_of index.now count inst tag }
@@ -147,6 +148,7 @@ pub fn step(rows: &[u16], count: usize, row: usize) -> Found
 
 // "a walker that holds the lent index and its place": the index, the count row, and the row at which it stands. Where that is no row of
 // the index it has not begun. The instance at which it stands is that row's. At the end it stays where it is, and the answer stays.
+// kept: the row is a number with no Option, since the clause of new and its must-fail edit fix it for a walker that has not begun.
 #[derive(Clone, Copy)]
 pub struct Walker<'a> {
     rows: &'a [u16],

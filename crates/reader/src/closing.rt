@@ -18,7 +18,7 @@ pub struct Head {
     pub at: usize,
 }
 
-// A tag that is watched for, and whether it was in the instance.
+// A tag that is watched for, and whether it was in the instance. It stands apart from Head, since no_instance has no hit to tell of.
 #[derive(Clone, Copy, Debug, PartialEq, Eq)]
 pub struct Watch {
     pub tag: u32,
@@ -34,6 +34,7 @@ pub struct Group<'a> {
 }
 
 // What stands where no tag of good form does.
+// kept: refuse is public and answers for every u32, as in lists.
 const TORN: u32 = 65537;
 
 // A member already in this instance 10, one earlier in the list 9; of a tag that is not watched it is not known.

@@ -30,6 +30,7 @@ fn tag_at(m: &[u8], at: usize) -> Option<Number>
 }
 
 // The same as a number: 65,537 where no tag of good form stands, and 0 at the end.
+// kept: the clause of this public function is on that number, which lists and closing ask for.
 pub fn peek(m: &[u8], at: usize) -> u32
     ensures { result ≡ peek (drop at m.now) }
 {
@@ -50,6 +51,7 @@ pub fn count_of(m: &[u8], a: usize, b: usize) -> usize
 }
 
 // The data from a place on, as many bytes as its Length says.
+// kept: that the field is within m is asked here and twice below; a struct of both would be made in one place and taken apart in three.
 fn data_at(m: &[u8], field: Field, tag: u16, start: usize) -> Result<Grabbed, Refused>
     requires { (field.start ≤ field.end) × (field.end < length m.now) × (start ≤ length m.now) }
     ensures { (B : List Record) (at : ℕ) → Stands m.now at field.tag field.start field.end → start ≡ field.end + 1 + lead tag

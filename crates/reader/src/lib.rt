@@ -33,6 +33,7 @@ pub struct Field {
 }
 
 // A field taken off, and its datatype; or a Length and its data.
+// kept: the datatype is the book's number, as in Declared.
 #[derive(Clone, Copy, Debug, PartialEq, Eq)]
 pub enum Grabbed {
     Single { field: Field, datatype: u16 },
@@ -47,6 +48,7 @@ pub enum Step {
 }
 
 // A row of the index: tag, value start, value length, depth, count row, instance.
+// kept: index has the same six for its questions, since neither crate stands on the other and message below both has no code.
 #[derive(Clone, Copy, Debug, PartialEq, Eq)]
 pub struct Line {
     pub tag: u16,

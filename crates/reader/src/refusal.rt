@@ -1,3 +1,4 @@
+// The refusals of a message: an enum, and the place where each was met. A definition has document 01's numbers.
 ghost use Rattle.std.specs.Prelude.{◌≡◌};
 
 // Why a message is refused, each case under what document 01 says of it, and where.

@@ -7,13 +7,11 @@ ghost use Rattle.reader.specs.Met.{line_row};
 
 use crate::Line;
 
-impl Line {
-    fn numbers(self) -> [u16; 6]
-        ensures { result ≡ row_numbers (line_row self) }
-    {
-        [
-            self.tag, self.start, self.size, self.depth, self.count, self.inst,
-        ]
+impl From<Line> for [u16; 6] {
+    ghost from_gives = { λ r n. n ≡ row_numbers (line_row r) };
+
+    fn from(r: Line) -> [u16; 6] {
+        [r.tag, r.start, r.size, r.depth, r.count, r.inst]
     }
 }
 
@@ -32,7 +30,7 @@ pub fn put_row(index: &mut [u16], bytes: &mut [u8], k: usize, r: Line)
     ensures { (index.new ≡ put_row 6 row_numbers index.old k (line_row r))
         × (bytes.new ≡ put_row 12 row_bytes bytes.old k (line_row r)) }
 {
-    let numbers = r.numbers();
+    let numbers = <[u16; 6]>::from(r);
     let pairs = numbers.map(|n| n.to_le_bytes());
     put(index, 6 * k, &numbers);
     put(bytes, 12 * k, pairs.as_flattened());

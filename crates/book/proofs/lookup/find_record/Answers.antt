@@ -3,10 +3,15 @@ use Rattle.std.proofs.lemmas.Iterator.Consumers.{YieldsList-from_first}
 use Rattle.std.proofs.lemmas.Iterator.Search.{find_from_yields_List}
 use Rattle.book.specs.Records.{is_kind, records}
 use Rattle.book.specs.Walked.{record_in, records_left}
-use Rattle.book.proofs.Look.{found_is}
+use mathlib.Core.Path.{◌≡◌}
+use Rattle.book.specs.Answers.{look_of}
+use Rattle.book.specs.Records.{look_up}
+use Rattle.book.proofs.Look.{found_is, found_there}
 use Rattle.book.proofs.lookup.find_record.Goals as goal
 
 pub returns : goal.returns
 returns c =
-    let p = is_kind c.args.kind c.args.tag in let B = records c.args.book.now in
-    found_is p B c.find.result (find_from_yields_List p c.find.new.self _ c.find.result c.find.ensures.ran (YieldsList-from_first record_in records_left {s = c.of.result} B c.of.ensures) (λ x b q k. search (rules, tests)))
+    let p = is_kind c.args.kind c.args.tag in
+    let B = records c.args.book.now in
+    let e : look_of c.find.result ≡ look_up p B = found_is p B c.find.result (find_from_yields_List p c.find.new.self _ c.find.result c.find.ensures.ran (YieldsList-from_first record_in records_left {s = c.of.result} B c.of.ensures) (λ x b q k. search (rules, tests))) in
+    record { found = e; place = found_there p c.args.book.now c.find.result e }

@@ -9,6 +9,6 @@ pub returns : goal.returns
 unfolding row_bytes little_endian
 returns c =
     let r = line_row c.args.r in
-    let e = c.numbers-numbers.ensures in
+    let e = c.from-numbers.ensures in
     let flat : c.as_flattened.result.now ≡ row_bytes r = c.as_flattened.ensures.value ∙ pairs_flat _ _ _ _ 6 c.map-pairs.ensures.items (ap length e) (λ p q n y ran. search rules) ∙ ap little_endian e in
     (put_is 6 row_numbers _ _ _ _ r e (ap length e) c.put.ensures, put_is 12 row_bytes _ _ _ _ r flat (ap length flat) c.put-2.ensures)
