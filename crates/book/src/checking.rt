@@ -46,6 +46,8 @@ pub struct Broken {
 }
 
 // Puts into the map the tags of the fields whose datatype is picked.
+// kept: book and map go side by side here and in the functions that only hand both on, where the map is plain memory, to be filled anew; for
+// rules 5 and 6, which read it, Declaring and Pairing lend both.
 fn mark_fields<F: Fn(Declared) -> bool>(book: &[u8], map: &mut Map, picks: F)
     requires { F.IsAlwaysCallable picks }
     ensures { (p : ℕ → Bool) → ((d : _) (b : Bool) → F.post picks d b → b ≡ p d.datatype)
@@ -78,6 +80,8 @@ fn first_break<F: Fn(Record) -> bool>(book: &[u8], rule: Rule, breaks: F) -> Res
 }
 
 // Opens a list with its groups, so many levels deep at most; whether a tag stands twice or a group too deep.
+// kept: book and map go side by side, though the map means something: the tags seen so far. Each member adds one, so a struct that says them
+// would be made anew for each member and for each group below.
 fn open_list(book: &[u8], list: &[u8], depth: usize, map: &mut Map) -> bool
     ensures { (seen : List ℕ) → Seen map.old seen
         → Opens (open_list (open_group (records book.now) depth) seen (members_of list.now)) result map.new }

@@ -15,6 +15,7 @@ mod rules;
 pub use checking::{Broken, Rule, check};
 
 // A bit for each tag.
+// kept: an array that check has on its stack, since libraries use no heap and their memory is fixed.
 type Map = [u8; 8192];
 
 // What a tag is declared as.

@@ -1,5 +1,6 @@
 // What the book declares: total on any bytes, the first declaration wins.
-ghost use Rattle.std.specs.Prelude.{◌≡◌, ℕ};
+ghost use Rattle.std.specs.Prelude.{◌≡◌, ℕ, eqb};
+ghost use Rattle.forms.specs.Numbered.{number_of};
 ghost use Rattle.book.specs.Records.{members_of, type_text, is_count, is_kind, is_field, is_group, is_message, is_found, members_in, look_up, type_of, partner, group_of, message_of, place_in, records};
 ghost use Rattle.book.specs.Walked.{kind_number, record_in};
 ghost use Rattle.book.specs.Answers.{found_in, look_of, type_told, partner_told, is_told};
@@ -17,12 +18,12 @@ pub(crate) fn find_of<'a>(book: &'a [u8], kind: Kind, tag: u16) -> Option<Record
 }
 
 // The same of a kind's number, 0 for a record of no kind.
-// kept: find_record is public and answers for every number, where a Kind asks more of a caller, so it has a scan of its own.
+// kept: find_record is public and its clause answers for every number, 0 too, where a Kind asks more of a caller, so it has a scan of its own.
 pub fn find_record<'a>(book: &'a [u8], kind: u16, tag: u16) -> Option<Record<'a>>
     ensures found { look_of result ≡ look_up (is_kind kind tag) (records book.now) }
     ensures place { found_in book.now result ≡ look_up (is_kind kind tag) (records book.now) }
 {
-    Records::of(book).find(|r| r.tag() == tag && r.number() == kind)
+    Records::of(book).find(|r| r.tag() == tag && r.kind().map_or(0, u16::from) == kind)
 }
 
 // A type text without the zeros that fill it up.
@@ -56,10 +57,17 @@ pub fn declared(book: &[u8], tag: u16) -> Option<Declared>
     find_of(book, Kind::Field, tag).map(|r| r.declares())
 }
 
+// Whether a tag is declared, and of that datatype.
+pub fn is_of(book: &[u8], tag: u16, datatype: Datatype) -> bool
+    ensures { result ≡ eqb (type_of (records book.now) tag) (number_of datatype) }
+{
+    declared(book, tag).is_some_and(|d| d.is(datatype))
+}
+
 pub(crate) fn is_count(book: &[u8], tag: u16) -> bool
     ensures { result ≡ is_count (records book.now) tag }
 {
-    declared(book, tag).is_some_and(|d| d.is(Datatype::NumInGroup))
+    is_of(book, tag, Datatype::NumInGroup)
 }
 
 pub fn has_group(book: &[u8], tag: u16) -> bool
@@ -92,6 +100,7 @@ pub fn message_list<'a>(book: &'a [u8], text: &[u8]) -> &'a [u8]
 }
 
 // The place of a tag in a list of members' bytes.
+// kept: where the list has no such tag it is the count of the members, as the clause says by place_in; there is always an answer.
 pub fn place_in(list: &[u8], tag: u16) -> usize
     ensures { result ≡ place_in (members_of list.now) tag }
 {

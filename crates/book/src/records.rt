@@ -16,6 +16,14 @@ pub enum Kind {
     Group = 3,
 }
 
+impl From<Kind> for u16 {
+    ghost from_gives = { λ k n. n ≡ kind_number k };
+
+    fn from(k: Kind) -> u16 {
+        k as u16
+    }
+}
+
 // A record: its offset, and the book's bytes from there on.
 #[derive(Clone, Copy, Debug)]
 pub struct Record<'a> {
@@ -59,7 +67,7 @@ pub fn record_members<'a>(s: &'a [u8]) -> &'a [u8]
     ensures { result.now ≡ member_bytes (le16 s.now) (le16 (drop 2 s.now)) s.now }
 {
     let n = usize::from(u16_at(s, 0));
-    if u16_at(s, 2) == Kind::Message as u16 {
+    if u16_at(s, 2) == u16::from(Kind::Message) {
         return part(s, 8, n.saturating_sub(6));
     }
     part(s, 6, n.saturating_sub(4))
@@ -71,13 +79,6 @@ impl<'a> Record<'a> {
         ensures { kind_in result ≡ (record_in self.entry).kind }
     {
         record_kind(self.bytes)
-    }
-
-    // The kind's number in the book, 0 for none.
-    pub(crate) fn number(self) -> u16
-        ensures { result ≡ (record_in self.entry).kind }
-    {
-        self.kind().map_or(0, |kind| kind as u16)
     }
 
     pub(crate) fn is(self, kind: Kind) -> bool

@@ -80,13 +80,12 @@ fn good_partner(book: &[u8], tag: u16, d: Declared) -> bool
     d.partner == 0
 }
 
-// kept: rule 4 says 1 to 16 in numbers, and the must-fail edit type_17 turns the 16.
 #[tactic(auto, unfolding(crate::specs::Rules::rule4))]
 pub fn breaks_4(book: &[u8], r: Record) -> bool
     ensures { result ≡ rule4 (records book.now) (record_in r.entry) }
 {
     let d = r.declares();
-    r.is(Kind::Field) && !(1 <= d.datatype && d.datatype <= 16 && good_partner(book, r.tag(), d))
+    r.is(Kind::Field) && !(Datatype::try_from(d.datatype).is_ok() && good_partner(book, r.tag(), d))
 }
 
 // A book, and a map that holds the tags that it declares.

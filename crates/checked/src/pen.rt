@@ -103,7 +103,7 @@ impl Pen {
     fn begin(&mut self, kind: Kind) {
         self.open = Some(self.out.len());
         self.put_number(0);
-        self.put_number(kind as u16);
+        self.put_number(u16::from(kind));
     }
 
     fn mark(&mut self, b: u8) {

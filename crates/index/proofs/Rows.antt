@@ -6,8 +6,9 @@ use Rattle.std.proofs.lemmas.List.{get_or-drop, get_or-take, length-map}
 use Rattle.std.proofs.Math.ListN as Math
 use Rattle.std.proofs.lemmas.Iterator.Adapters.{position_from-zero}
 use Rattle.index.specs.Questions.{row_count, number, lowest}
-use Rattle.index.specs.Answers.{found_from, row_from, row_of}
-use Rattle.index.specs.declared.Row.{Row}
+use Rattle.message.specs.Sixes.{row_from}
+use Rattle.message.specs.declared.Row.{Row}
+use Rattle.index.specs.Answers.{found_from, row_of}
 use Rattle.index.proofs.Lowest.{lowest_here, lowest_next}
 
 -- number i of six k

@@ -1,10 +1,10 @@
 -- What the code's types say: the answer `Found`, a row and a walker. Assumes nothing.
-use Rattle.std.specs.Prelude.{◌≡◌, refl, ℕ, List, Option, Some, None, get_or, cond, ltb}
+use Rattle.std.specs.Prelude.{◌≡◌, refl, ℕ, List, Option, Some, None, cond, ltb}
 use Rattle.std.proofs.Common.{ap, arith}
+use Rattle.message.specs.declared.Row as R
 use Rattle.index.specs.Questions as Q
 use Rattle.index.specs.declared.Found.{Found}
 use Rattle.index.specs.declared.Found.TheVariants.{Row, Absent}
-use Rattle.index.specs.declared.Row as R
 use Rattle.index.specs.declared.Walker.{Walker}
 
 abbrev pub found_of : Found → Q.Found
@@ -22,10 +22,6 @@ found_of_injective Absent Absent e = refl
 abbrev pub found_from : Option ℕ → Q.Found
 found_from (Some k) = Q.row k
 found_from None = Q.absent
-
--- the six numbers of a row
-abbrev pub row_from : List ℕ → R.Row
-row_from l = record { tag = get_or l 0 0; start = get_or l 1 0; length = get_or l 2 0; depth = get_or l 3 0; count = get_or l 4 0; instance = get_or l 5 0 }
 
 -- row k of an index, and the same if the index has it
 abbrev pub row_of : List ℕ → ℕ → R.Row

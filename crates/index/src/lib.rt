@@ -6,7 +6,9 @@ ghost use Rattle.std.specs.Iterator.{YieldsFirst, item_count};
 ghost use Rattle.std.specs.Simd.{first_chunks};
 ghost use Rattle.message.specs.Rows.{width};
 ghost use Rattle.index.specs.Questions.{row_count, value_of, find as find_of, find_value, instance_row, next_instance, walk, step as step_of};
-ghost use Rattle.index.specs.Answers.{found_of, found_from, row_from, row_at, rows_of_walker};
+ghost use Rattle.index.specs.Answers.{found_of, found_from, row_at, rows_of_walker};
+
+use message::Row;
 
 // "Six 16-bit numbers for each field".
 pub const WIDTH: usize = 6;
@@ -27,38 +29,11 @@ impl From<Option<usize>> for Found {
     }
 }
 
-// A row's numbers, in their order. No question asks for the depth.
-#[derive(Clone, Copy)]
-struct Row {
-    tag: u16,
-    start: u16,
-    length: u16,
-    depth: u16,
-    count: u16,
-    instance: u16,
-}
-
-impl Row {
-    fn of(numbers: &[u16; WIDTH]) -> Row
-        ensures { result ≡ row_from numbers.now }
-    {
-        let [tag, start, length, depth, count, instance] = *numbers;
-        Row {
-            tag,
-            start,
-            length,
-            depth,
-            count,
-            instance,
-        }
-    }
-
-    // Whether the row has this count row and instance; the depth is not compared.
-    fn is_in(self, count: usize, inst: usize) -> bool
-        ensures { result ≡ (eqb self.count count && eqb self.instance inst) }
-    {
-        usize::from(self.count) == count && usize::from(self.instance) == inst
-    }
+// Whether the row has this count row and instance; the depth is not compared.
+fn is_in(row: Row, count: usize, inst: usize) -> bool
+    ensures { result ≡ (eqb row.count count && eqb row.instance inst) }
+{
+    usize::from(row.count) == count && usize::from(row.instance) == inst
 }
 
 // The rows: each whole six. A shorter rest is ignored.
@@ -72,7 +47,7 @@ fn rows_of(index: &[u16]) -> &[[u16; WIDTH]]
 fn row_at(index: &[u16], k: usize) -> Option<Row>
     ensures { result ≡ row_at index.now k }
 {
-    rows_of(index).get(k).map(Row::of)
+    rows_of(index).get(k).map(Row::from)
 }
 
 // The part of the message that holds the value of row k. Start and length are added as wide numbers, so the sum does not wrap.
@@ -88,15 +63,15 @@ pub fn value<'a>(index: &[u16], message: &'a [u8], k: usize) -> &'a [u8]
     message.get(start..end).unwrap_or_default()
 }
 
-// kept: count, inst and tag are three parameters, since find and find_value are public as they are.
 // The lowest row with this count row, instance and tag. They are compared as wide numbers: one above 65,535 is in no row.
+// kept: three parameters, as in find_value: document 01 has "find, given count row, instance and tag", and inkrowan_find takes them from C.
 pub fn find(index: &[u16], count: usize, inst: usize, tag: usize) -> Found
     ensures { found_of result ≡ find_of index.now count inst tag }
 {
     rows_of(index)
         .iter()
-        .map(Row::of)
-        .position(|row| row.is_in(count, inst) && usize::from(row.tag) == tag)
+        .map(Row::from)
+        .position(|row| is_in(row, count, inst) && usize::from(row.tag) == tag)
         .into()
 }
 
@@ -123,8 +98,8 @@ fn instance_row(index: &[u16], count: usize, inst: usize) -> Found
 {
     rows_of(index)
         .iter()
-        .map(Row::of)
-        .position(|row| row.is_in(count, inst))
+        .map(Row::from)
+        .position(|row| is_in(row, count, inst))
         .into()
 }
 
@@ -204,6 +179,8 @@ impl<'a> Iterator for Walker<'a> {
 }
 
 // A walker's row with plain parameters: whoever goes from row to row by this one holds no walker.
+// kept: step has the same clause. It stands below the walker, whose form in document 01 is a "thin next function over a covered
+// number-based one"; this one stands above it.
 pub fn row_after(rows: &[u16], count: usize, row: usize) -> Found
     ensures { found_of result ≡ step_of rows.now count row }
 {

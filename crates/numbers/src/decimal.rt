@@ -7,6 +7,7 @@ ghost use Rattle.numbers.specs.Before.{before};
 use crate::rest;
 
 // The first place of b at or behind `from`; where there is none, the end.
+// kept: the end, and no Option, since the clause says it by `before`; there is always an answer.
 pub fn find_byte(s: &[u8], from: usize, b: u8) -> usize
     ensures { result ≡ from + before b (drop from s.now) }
 {

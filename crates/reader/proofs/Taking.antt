@@ -21,6 +21,8 @@ use Rattle.message.specs.Arrangement.{single, pair}
 use Rattle.message.specs.Rows.{lead}
 use Rattle.reader.specs.declared.Field.{Field}
 use Rattle.reader.specs.declared.Grabbed.{Grabbed}
+use Rattle.forms.specs.Numbered.{number_of}
+use Rattle.forms.specs.declared.Datatype.{Datatype}
 use Rattle.reader.specs.declared.Grabbed.TheVariants.{Single, Pair}
 use Rattle.reader.specs.declared.refusal.Refusal.{Refusal}
 use Rattle.reader.specs.declared.refusal.Refusal.TheVariants as Case
@@ -264,8 +266,8 @@ module _ (B : List Record) (m : List ℕ) (at : ℕ) (f : Field) (y q : ℕ) (kn
     value_bad z = (sym (value_is ∙ rw (sym g ∙ z)), (omega arith, λ i. i, refl))
 
     module _ (z : t ≡ true) where
-      pub value_single : eqb y 5 ≡ false → Valued (Ok (Single f y))
-      value_single x = (sym (value_is ∙ rw (sym g ∙ z, x)), (known.0, st))
+      pub value_single : eqb y 5 ≡ false → (k : Datatype) → number_of k ≡ y → Valued (Ok (Single f k))
+      value_single x k n = (sym (value_is ∙ rw (sym g ∙ z, x)), (n ∙ known.0, st))
 
       pub value_pair : eqb y 5 ≡ true → (r : Result Grabbed Refused)
           → ((B : List Record) (at : ℕ) → q ≡ partner B f.tag → Stands m at f.tag f.start f.end

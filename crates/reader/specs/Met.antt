@@ -6,11 +6,9 @@ use Rattle.numbers.specs.Bytes.{le16}
 use Rattle.book.specs.Records.{Member, members_of, member_bytes, records}
 use Rattle.message.specs.Arrangement.{Page}
 use Rattle.message.specs.Permitted.{Miss, none, lacks}
-use Rattle.message.specs.Rows.{Row}
 use Rattle.reader.specs.declared.Sought.{Sought}
 use Rattle.reader.specs.declared.Step.{Step}
 use Rattle.reader.specs.declared.Step.TheVariants.{Done, Ask}
-use Rattle.reader.specs.declared.Line.{Line}
 use Rattle.reader.specs.declared.page.Page as Code
 use Rattle.reader.specs.declared.closing.Group.{Group}
 use Rattle.reader.specs.declared.refusal.Refused.{Refused}
@@ -26,9 +24,6 @@ miss_of (Some t) = lacks t
 -- in a list's bytes
 abbrev pub sought_in : List ℕ → Sought → Seek
 sought_in l r = option_map_or (λ at. met (miss_of r.missing) (members_of (drop at l))) r.place (passed (miss_of r.missing))
-
-abbrev pub line_row : Line → Row
-line_row r = record { tag = r.tag; value_start = r.start; value_length = r.size; depth = r.depth; count_row = r.count; instance = r.inst }
 
 -- the members of the record at an offset
 unfoldable pub list_at : List ℕ → ℕ → List Member

@@ -1,6 +1,7 @@
 -- What the code's answer at a field says: places in m, the message without its last seven bytes. Assumes nothing.
 use Rattle.std.specs.Prelude.{◌≡◌, cond, List, ℕ, ◌+◌, ◌-◌, ◌≤◌, ◌<◌, eqb, length, take, drop, Result, Ok, Err}
 use Rattle.numbers.specs.Decimal.{value}
+use Rattle.forms.specs.Numbered.{number_of}
 use Rattle.book.specs.Records.{Record, type_of, partner}
 use Rattle.message.specs.Arrangement.{single, pair}
 use Rattle.message.specs.Rows.{lead}
@@ -29,7 +30,7 @@ pub record Stands (m : List ℕ) (at t a b : ℕ) : Type 0 where
 
 -- the answer's places are right; a refusal is at the field or at the data behind it, and names no member
 abbrev pub Placed : List Record → List ℕ → ℕ → Result Grabbed Refused → Type 0
-Placed B m at (Ok (Single f y)) = (y ≡ type_of B f.tag) × Stands m at f.tag f.start f.end
+Placed B m at (Ok (Single f y)) = (number_of y ≡ type_of B f.tag) × Stands m at f.tag f.start f.end
 Placed B m at (Ok (Pair l d)) = Stands m at l.tag l.start l.end × Stands m (l.end + 1) d.tag d.start d.end
 Placed B m at (Err r) = (at ≤ r.at) × (at ≤ length m → r.at ≤ length m) × (tag_of r.why ≡ 0)
 

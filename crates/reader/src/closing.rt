@@ -6,19 +6,22 @@ ghost use Rattle.reader.specs.Items.{starts};
 ghost use Rattle.reader.specs.Filling.{poor, late_fill, f_refuse, f_close};
 ghost use Rattle.reader.specs.Met.{miss_of, page_of, ends_by, Says};
 
+use crate::fields::TORN;
 use crate::lists::{has_tag, is_first};
 use crate::page::Page;
 use crate::refusal::{Refusal, Refused};
 use crate::{Open, Step};
 
-// The tag that stands at a place.
+// The tag that stands at a place, as peek says it.
+// kept: a u32, here and in Watch, since the public functions below answer for every u32, TORN too, as those in lists do.
 #[derive(Clone, Copy, Debug, PartialEq, Eq)]
 pub struct Head {
     pub tag: u32,
     pub at: usize,
 }
 
-// A tag that is watched for, and whether it was in the instance. It stands apart from Head, since no_instance has no hit to tell of.
+// A tag that is watched for, and whether it was in the instance.
+// kept: it stands apart from Head, since no_instance has no hit to tell of.
 #[derive(Clone, Copy, Debug, PartialEq, Eq)]
 pub struct Watch {
     pub tag: u32,
@@ -32,10 +35,6 @@ pub struct Group<'a> {
     pub list: &'a [u8],
     pub around: Open,
 }
-
-// What stands where no tag of good form does.
-// kept: refuse is public and answers for every u32, as in lists.
-const TORN: u32 = 65537;
 
 // A member already in this instance 10, one earlier in the list 9; of a tag that is not watched it is not known.
 fn late(head: Head, watch: Watch) -> Result<Step, Refused>

@@ -13,11 +13,15 @@ use crate::refusal::{Refusal, Refused};
 use crate::{Field, Grabbed};
 use book::Declared;
 use book::lookup::declared;
-use forms::{Datatype, of_type};
+use forms::Datatype;
 use numbers::scan::{Number, number_at, value_capped_at};
 use numbers::{byte_at, part};
 
+// What peek says where no tag of good form stands.
+pub(crate) const TORN: u32 = 65537;
+
 // The tag of good form that stands here, 65,536 for every larger one, and the place of its `=`.
+// kept: 65,536, and no Option, since the clause of peek is on that number too.
 fn tag_at(m: &[u8], at: usize) -> Option<Number>
     ensures { MatchOption result (torn ≡ tag_in (cut 61 (drop at m.now)))
         (λ n. (n.value ≡ tag_in (cut 61 (drop at m.now))) × (n.end ≡ at + length (leading_digits (drop at m.now))) × (n.value ≤ 65536)) }
@@ -29,7 +33,7 @@ fn tag_at(m: &[u8], at: usize) -> Option<Number>
     None
 }
 
-// The same as a number: 65,537 where no tag of good form stands, and 0 at the end.
+// The same as a number: TORN where no tag of good form stands, and 0 at the end.
 // kept: the clause of this public function is on that number, which lists and closing ask for.
 pub fn peek(m: &[u8], at: usize) -> u32
     ensures { result ≡ peek (drop at m.now) }
@@ -39,7 +43,7 @@ pub fn peek(m: &[u8], at: usize) -> u32
     }
     match tag_at(m, at) {
         Some(n) => n.value as u32,
-        None => 65537,
+        None => TORN,
     }
 }
 
@@ -99,16 +103,16 @@ fn typed(m: &[u8], at: usize, field: Field, known: Option<Declared>) -> Result<G
     let Some(known) = known else {
         return Err(wrong);
     };
-    if !of_type(known.datatype, &m[field.start..field.end]) {
+    let Ok(datatype) = Datatype::try_from(known.datatype) else {
+        return Err(wrong);
+    };
+    if !datatype.accepts(&m[field.start..field.end]) {
         return Err(wrong);
     }
     if known.is(Datatype::Length) {
         return data_behind(m, field, known.partner);
     }
-    Ok(Grabbed::Single {
-        field,
-        datatype: known.datatype,
-    })
+    Ok(Grabbed::Single { field, datatype })
 }
 
 // The field from a place on, and the data behind it where it is a Length.

@@ -9,7 +9,10 @@ pub mod page;
 pub mod refusal;
 pub mod rows;
 
+use forms::Datatype;
+
 // A list walked down to a tag: the place behind its member, if the list has one; and the first required member that was passed.
+// kept: the member's tag is a u32, as in lists.
 #[derive(Clone, Copy, Debug, PartialEq, Eq)]
 pub struct Sought {
     pub place: Option<usize>,
@@ -33,30 +36,18 @@ pub struct Field {
 }
 
 // A field taken off, and its datatype; or a Length and its data.
-// kept: the datatype is the book's number, as in Declared.
 #[derive(Clone, Copy, Debug, PartialEq, Eq)]
 pub enum Grabbed {
-    Single { field: Field, datatype: u16 },
+    Single { field: Field, datatype: Datatype },
     Pair { length: Field, data: Field },
 }
 
 // A part that was read: the place behind it and the next row; or a late tag that is not watched.
+// kept: that tag is a u32, as in lists.
 #[derive(Clone, Copy, Debug, PartialEq, Eq)]
 pub enum Step {
     Done { at: usize, row: usize },
     Ask(u32),
-}
-
-// A row of the index: tag, value start, value length, depth, count row, instance.
-// kept: index has the same six for its questions, since neither crate stands on the other and message below both has no code.
-#[derive(Clone, Copy, Debug, PartialEq, Eq)]
-pub struct Line {
-    pub tag: u16,
-    pub start: u16,
-    pub size: u16,
-    pub depth: u16,
-    pub count: u16,
-    pub inst: u16,
 }
 
 // The groups that are open around the one in hand, innermost first: the offsets of their records.

@@ -10,7 +10,7 @@ ghost use Rattle.reader.specs.Met.{miss_of, sought_in};
 
 use crate::Sought;
 use book::list::{Member, Members};
-use book::lookup::{declared, group_list};
+use book::lookup::{group_list, is_of};
 use forms::Datatype;
 
 pub fn has_tag(list: &[u8], tag: u32) -> bool
@@ -33,7 +33,7 @@ pub fn is_bounded(book: &[u8], tag: u32) -> bool
     let Ok(tag) = u16::try_from(tag) else {
         return false;
     };
-    declared(book, tag).is_some_and(|d| d.is(Datatype::Data))
+    is_of(book, tag, Datatype::Data)
 }
 
 // The first required member that is missing stays noted; a data stands and falls with its Length.
@@ -81,7 +81,7 @@ pub(crate) fn stands_in(book: &[u8], list: &[u8], tag: u32, depth: usize) -> boo
             return true;
         }
         if depth > 0
-            && declared(book, m.tag).is_some_and(|d| d.is(Datatype::NumInGroup))
+            && is_of(book, m.tag, Datatype::NumInGroup)
             && stands_in(book, group_list(book, m.tag), tag, depth - 1)
         {
             return true;

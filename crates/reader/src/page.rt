@@ -16,6 +16,7 @@ pub struct Page<'a> {
     pub own: &'a [u8],
 }
 
+// kept: tags are u32, as in lists.
 impl Page<'_> {
     // A field may begin with this tag in this list.
     pub fn begins(&self, list: &[u8], tag: u32) -> bool

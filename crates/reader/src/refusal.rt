@@ -27,6 +27,7 @@ pub enum Refusal {
     // 13: another number of instances
     Instances,
     // 14: a required member is missing, this one
+    // kept: its tag is a u32, as in lists
     Missing(u32),
 }
 

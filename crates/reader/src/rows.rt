@@ -2,18 +2,10 @@
 // is room for it, and the one that is not wanted is lent empty.
 ghost use Rattle.std.specs.Prelude.{◌≡◌, ℕ, ◌+◌, ◌*◌, ◌^◌, ◌<◌, ◌≤◌, length, cond, leb};
 ghost use Rattle.std.proofs.lemmas.List.Edits.{sets};
+ghost use Rattle.message.specs.Sixes.{row_in};
 ghost use Rattle.reader.specs.Filling.{put_row, row_numbers, row_bytes};
-ghost use Rattle.reader.specs.Met.{line_row};
 
-use crate::Line;
-
-impl From<Line> for [u16; 6] {
-    ghost from_gives = { λ r n. n ≡ row_numbers (line_row r) };
-
-    fn from(r: Line) -> [u16; 6] {
-        [r.tag, r.start, r.size, r.depth, r.count, r.inst]
-    }
-}
+use message::Row;
 
 fn put<T: Copy>(lent: &mut [T], at: usize, row: &[T])
     requires { at + length row.now < 2 ^ 64 }
@@ -25,10 +17,12 @@ fn put<T: Copy>(lent: &mut [T], at: usize, row: &[T])
     }
 }
 
-pub fn put_row(index: &mut [u16], bytes: &mut [u8], k: usize, r: Line)
+// kept: two buffers, of which one is empty: by the same functions the reader fills numbers for callers in Rattle and little-endian bytes for C,
+// and the clause is on both.
+pub fn put_row(index: &mut [u16], bytes: &mut [u8], k: usize, r: Row)
     requires { k ≤ 8192 }
-    ensures { (index.new ≡ put_row 6 row_numbers index.old k (line_row r))
-        × (bytes.new ≡ put_row 12 row_bytes bytes.old k (line_row r)) }
+    ensures { (index.new ≡ put_row 6 row_numbers index.old k (row_in r))
+        × (bytes.new ≡ put_row 12 row_bytes bytes.old k (row_in r)) }
 {
     let numbers = <[u16; 6]>::from(r);
     let pairs = numbers.map(|n| n.to_le_bytes());

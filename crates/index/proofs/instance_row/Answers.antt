@@ -4,8 +4,9 @@ use Rattle.std.specs.Simd.{first_chunks}
 use Rattle.std.proofs.lemmas.Iterator.{YieldsList-from_slice, YieldsList-from_map}
 use Rattle.std.proofs.lemmas.Iterator.Search.{position_from_yields_List}
 use Rattle.index.specs.Questions.{row_count, instance_row}
-use Rattle.index.specs.Answers.{found_from, row_from}
-use Rattle.index.specs.declared.Row.{Row}
+use Rattle.message.specs.Sixes.{row_from}
+use Rattle.message.specs.declared.Row.{Row}
+use Rattle.index.specs.Answers.{found_from}
 use Rattle.index.proofs.Rows.{position_lowest}
 use Rattle.index.proofs.instance_row.Goals as goal
 

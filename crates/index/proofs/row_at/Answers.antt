@@ -2,7 +2,8 @@ use Rattle.std.proofs.Common.{◌≡◌, ◌<◌, length, get_or, [], arith}
 use Rattle.std.proofs.lemmas.Grind.{common_steps}
 use Rattle.std.proofs.lemmas.Bool.Decides.{nat_tests}
 use Rattle.index.specs.Questions.{row_count}
-use Rattle.index.specs.Answers.{row_from, row_of}
+use Rattle.message.specs.Sixes.{row_from}
+use Rattle.index.specs.Answers.{row_of}
 use Rattle.index.proofs.Rows.{chunk_row, length_chunks}
 use Rattle.index.proofs.row_at.Goals as goal
 
