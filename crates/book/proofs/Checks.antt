@@ -1,23 +1,23 @@
 -- Laws of the check's maps and order. Assumes nothing.
 use mathlib.Core.Path.{◌≡◌, refl, sym, ap, ◌∙◌}
-use mathlib.Core.Bool.{Bool, true, false, cond, ◌&&◌, ◌||◌, or-false, true≢false}
+use mathlib.Core.Bool.{Bool, true, false, cond, ◌&&◌, ◌||◌, not, or-false, true≢false}
 use mathlib.Core.List.{List, [], ◌∷◌}
-use Prim.Native.Nat.{ℕ, zero, suc, ◌-◌, ◌≤◌, ◌<◌}
+use Prim.Native.Nat.{ℕ, zero, suc, ◌+◌, ◌-◌, ◌≤◌, ◌<◌}
 use native.Mathlib.Omega.{arith}
-use borrow.Author.Tests.{eqb-true, eqb-false, eq-eqb, ne_eqb, lt-ltb, le-ltb}
-use lib.Dec.{eqb}
-use lib.ListN.{length, get_or, replicate, length-replicate}
+use borrow.Author.Tests.{eqb-true, eqb-false, eq-eqb, ne_eqb, leb-true, le-leb, lt-ltb, le-ltb}
+use lib.Dec.{eqb, leb}
+use lib.ListN.{length, drop, get_or, replicate, length-replicate}
 use Rattle.std.specs.Prelude.{Option, Some, None, Result, Ok, Err}
 use Rattle.std.specs.Option.{option_map}
 use Rattle.std.specs.List.{find}
 use Rattle.numbers.specs.Bytes.{mem}
 use Rattle.numbers.specs.Bits.{bit_at, marked}
-use Rattle.numbers.proofs.Tests.{clash}
+use Rattle.numbers.proofs.Tests.{clash, and_left, and_right, or_left, or_right}
 use Rattle.numbers.proofs.Marks.{Marks, marks_none, marks_more, marked_length}
 use Rattle.book.specs.declared.records.Record as Code
 use Rattle.book.specs.declared.checking.Broken.{Broken}
-use Rattle.book.specs.Records.{Member, stop, members_of, Record, record_at, records, is_field, LookUp, found, look_up, is_found, type_of, is_count, group_of}
-use Rattle.book.specs.Rules.{rule1, rule9, Opened, once, conflict, and_open, open_list, open_group, conflicts}
+use Rattle.book.specs.Records.{Member, size, walk_from, walk, stop, members_of, Record, record_at, records, is_field, LookUp, nothing, found, look_up, is_found, type_of, is_count, group_of}
+use Rattle.book.specs.Rules.{rule1, first_at, earlier, rule3, rule9, Opened, once, conflict, and_open, open_list, open_group, conflicts}
 use Rattle.book.specs.Check.{Verdict, sound, broken, first, and_then, filled, rule_of, rules_from, check}
 use Rattle.book.specs.Walked.{record_in}
 use Rattle.book.specs.Answers.{told, Declares, Pairs, is_marked, Seen, Opens}
@@ -44,20 +44,20 @@ module _ (n : ℕ) (p : Record → Bool) (B : List Record) (f : Option Code.Reco
   pub first_none : f ≡ None → sound ≡ first n p B
   first_none q = ap (λ o. broken_in n (option_map record_in o)) (sym q) ∙ ap (broken_in n) e ∙ first_is n p B
 
--- the loop of rule 9: v is the whole book's answer, rs are the records still to come
-module _ (B : List Record) (v : Verdict) (rs : List Record) where
-  module _ (r : Code.Record) (later : List Record) (inv : v ≡ first 9 (rule_of 9 B) rs) (e : rs ≡ record_in r ∷ later) (b : Bool) (h : b ≡ rule9 B (record_in r)) where
-    pub nested_hit : b ≡ true → broken 9 r.offset ≡ v
-    unfolding first rule_of record_at
-    nested_hit q = sym (inv ∙ rw e (rw (sym h ∙ q, first)))
+-- a loop that stops at the first record that breaks a rule: v is the whole book's answer, rs are the records still to come
+module _ (n : ℕ) (p : Record → Bool) (v : Verdict) (rs : List Record) where
+  module _ (r : Code.Record) (later : List Record) (inv : v ≡ first n p rs) (e : rs ≡ record_in r ∷ later) (b : Bool) (h : b ≡ p (record_in r)) where
+    pub loop_hit : b ≡ true → broken n r.offset ≡ v
+    unfolding first record_at
+    loop_hit q = sym (inv ∙ rw e (rw (sym h ∙ q, first)))
 
-    pub nested_turn : b ≡ false → v ≡ first 9 (rule_of 9 B) later
-    unfolding first rule_of
-    nested_turn q = inv ∙ rw e (rw (sym h ∙ q, first))
+    pub loop_turn : b ≡ false → v ≡ first n p later
+    unfolding first
+    loop_turn q = inv ∙ rw e (rw (sym h ∙ q, first))
 
-  pub nested_end : v ≡ first 9 (rule_of 9 B) rs → rs ≡ [] → sound ≡ v
+  pub loop_end : v ≡ first n p rs → rs ≡ [] → sound ≡ v
   unfolding first
-  nested_end inv e = sym (inv ∙ rw e)
+  loop_end inv e = sym (inv ∙ rw e)
 
 zero_map : (map : List ℕ) → length map ≡ 8192 → Marks (replicate (length map) 0) 65536 (λ u. false)
 zero_map map e = marks_none (length map) 65536 (omega (arith, e))
@@ -125,6 +125,115 @@ module _ (p : ℕ → Bool) (B : List Record) (map : List ℕ) (r : Record) (rs 
           bytes = λ i. rw en (w.bytes i);
           told = λ t l. step t l ∙ rw (k, en, w.holds t l, ← eu, flip u t) (or_swap (eqb t u) (bit_at map t) (is_found (look_up (is_marked p t) later)));
         }
+
+-- the loop of rule 3: the map holds the tags that the fields before declare, their offsets are below `low`, and the records rs are still to come
+unfoldable pub rising : ℕ → List Record → Bool
+rising low [] = true
+rising low (r ∷ rs) = leb low r.offset && rising (suc r.offset) rs
+
+rising_from : (f at low : ℕ) (s : List ℕ) → low ≤ at → rising low (walk_from (λ at. []) (λ at r rs. record_at at r ∷ rs) f at s) ≡ true
+unfolding rising walk_from record_at
+rising_from zero at low s h = refl
+rising_from (suc f) at low s h = go (eqb (size s) 0) refl (rising_from f (at + size s) (suc at) (drop (size s) s))
+  where
+    go : (t : Bool) → eqb (size s) 0 ≡ t → (suc at ≤ at + size s → rising (suc at) (walk_from (λ at. []) (λ at r rs. record_at at r ∷ rs) f (at + size s) (drop (size s) s)) ≡ true)
+        → rising low (cond (eqb (size s) 0) [] (record_at at s ∷ walk_from (λ at. []) (λ at r rs. record_at at r ∷ rs) f (at + size s) (drop (size s) s))) ≡ true
+    go true z ih = rw z
+    go false z ih = let k = eqb-false (size s) 0 z in rw (z, le-leb low at h, ih (omega (arith, k)))
+
+rising_records : (s : List ℕ) → rising 0 (records s) ≡ true
+unfolding records walk
+rising_records s = rising_from (length s) 0 0 s (omega arith)
+
+abbrev pub Before : ℕ → LookUp → Type 0
+Before low nothing = ⊥
+Before low (found r) = r.offset < low
+
+later_too : (low high : ℕ) → low ≤ high → (k : LookUp) → Before low k → Before high k
+later_too low high h nothing b = b
+later_too low high h (found r) b = omega (arith, h, b)
+
+pub record Repeating (B : List Record) (map : List ℕ) (rs : List Record) : Type 0 where
+  pub long : length map ≡ 8192
+  pub bytes : (i : ℕ) → get_or map i 0 < 256
+  pub low : ℕ
+  pub rises : rising low rs ≡ true
+  pub fresh : (t : ℕ) → t < 65536 → bit_at map t ≡ false → look_up (is_field t) B ≡ look_up (is_field t) rs
+  pub before : (t : ℕ) → t < 65536 → bit_at map t ≡ true → Before low (look_up (is_field t) B)
+
+pub repeat_start : (s map₀ map : List ℕ) (rs : List Record) → length map₀ ≡ 8192 → map ≡ replicate {A = ℕ} (length map₀) 0 → rs ≡ records s → Repeating (records s) map rs
+repeat_start s map₀ map rs e z q = record {
+  long = rw z (length-replicate {A = ℕ} (length map₀) 0 ∙ e);
+  bytes = λ i. rw z ((zero_map map₀ e).bytes i);
+  low = 0;
+  rises = rw q (rising_records s);
+  fresh = λ t h b. rw q;
+  before = λ t h b. clash (bit_at map t) b (rw z ((zero_map map₀ e).holds t h));
+}
+
+module _ (B : List Record) (map : List ℕ) (r : Record) (rs later : List Record) (inv : Repeating B map rs) (e : rs ≡ r ∷ later) where
+  both : (leb inv.low r.offset && rising (suc r.offset) later) ≡ true
+  unfolding rising
+  both = ap (rising inv.low) (sym e) ∙ inv.rises
+
+  reached : inv.low ≤ r.offset
+  reached = leb-true inv.low r.offset (and_left (leb inv.low r.offset) (rising (suc r.offset) later) both)
+
+  rises_on : rising (suc r.offset) later ≡ true
+  rises_on = and_right (leb inv.low r.offset) (rising (suc r.offset) later) both
+
+  still : (t : ℕ) → t < 65536 → bit_at map t ≡ true → Before (suc r.offset) (look_up (is_field t) B)
+  still t h b = later_too inv.low (suc r.offset) (omega (arith, reached)) (look_up (is_field t) B) (inv.before t h b)
+
+  passed : (t : ℕ) → t < 65536 → bit_at map t ≡ false → is_field t r ≡ false → look_up (is_field t) B ≡ look_up (is_field t) later
+  unfolding look_up
+  passed t h b n = inv.fresh t h b ∙ ap (look_up (is_field t)) e ∙ rw n
+
+  reaches : (t : ℕ) → t < 65536 → bit_at map t ≡ false → is_field t r ≡ true → look_up (is_field t) B ≡ found r
+  unfolding look_up
+  reaches t h b n = inv.fresh t h b ∙ ap (look_up (is_field t)) e ∙ rw n
+
+  module _ (q : eqb r.kind 1 ≡ false) where
+    pub repeat_none : false ≡ rule3 B r
+    unfolding rule3
+    repeat_none = rw q
+
+    pub repeat_other : Repeating B map later
+    repeat_other = record { long = inv.long; bytes = inv.bytes; low = suc r.offset; rises = rises_on; fresh = λ t h b. passed t h b (rw q); before = still }
+
+  module _ (f : eqb r.kind 1 ≡ true) (u : ℕ) (eu : u ≡ r.tag) (hu : u < 65536) where
+    mine : is_field u r ≡ true
+    mine = rw f (eq-eqb r.tag u (sym eu))
+
+    earlier_is : (m : Bool) → bit_at map u ≡ m → earlier (is_field u) B r ≡ m
+    earlier_is true b = go (look_up (is_field u) B) (inv.before u hu b)
+      where
+        go : (k : LookUp) → Before inv.low k → not (first_at k r.offset) ≡ true
+        go nothing x = absurd x
+        go (found y) x = rw (ne_eqb y.offset r.offset (λ z. omega (arith, z, x, reached)))
+    earlier_is false b = rw (reaches u hu b mine) (rw (eq-eqb r.offset r.offset refl))
+
+    pub repeat_is : (v m : Bool) → v ≡ mem u (0 ∷ 8 ∷ 9 ∷ 35 ∷ 10 ∷ []) → m ≡ bit_at map u → (v || m) ≡ rule3 B r
+    unfolding rule3
+    repeat_is v m ev em = rw (f, ← eu, ← ev, earlier_is m (sym em))
+
+    pub repeat_new : (m : Bool) → m ≡ bit_at map u → m ≡ false → (new : List ℕ) → new ≡ marked map u → Repeating B new later
+    repeat_new m em q new en =
+        let self : Marks map 65536 (bit_at map) = record { room = omega (arith, inv.long); bytes = inv.bytes; holds = λ u l. refl } in
+        let w = marks_more map 65536 (bit_at map) self u hu in
+        record {
+          long = rw en (marked_length map u ∙ inv.long);
+          bytes = λ i. rw en (w.bytes i);
+          low = suc r.offset;
+          rises = rises_on;
+          fresh = λ t h b. let k : (eqb t u || bit_at map t) ≡ false = sym (w.holds t h) ∙ (rw en at b) in
+              passed t h (or_right (eqb t u) (bit_at map t) k) (rw (f, ← eu, flip u t, or_left (eqb t u) (bit_at map t) k));
+          before = λ t h b. new_before t h (eqb t u) refl (sym (w.holds t h) ∙ (rw en at b));
+        }
+      where
+        new_before : (t : ℕ) → t < 65536 → (x : Bool) → eqb t u ≡ x → (eqb t u || bit_at map t) ≡ true → Before (suc r.offset) (look_up (is_field t) B)
+        new_before t h true x k = let z : t ≡ u = eqb-true t u x in rw (z, reaches u hu (sym em ∙ q) mine) (omega arith)
+        new_before t h false x k = still t h (rw x at k)
 
 -- what the maps say to rules 5 and 6
 look_same : (p q : Record → Bool) → ((r : Record) → p r ≡ q r) → (B : List Record) → look_up p B ≡ look_up q B

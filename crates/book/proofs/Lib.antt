@@ -4,3 +4,4 @@ pub mod Members
 pub mod Texts
 pub mod RuleLaws
 pub mod Checks
+pub mod GroupLaws

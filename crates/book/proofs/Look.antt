@@ -2,15 +2,16 @@
 use mathlib.Core.Path.{◌≡◌, refl, sym, ap, ◌∙◌}
 use mathlib.Core.Bool.{Bool, true, false, cond}
 use mathlib.Core.List.{List, [], ◌∷◌}
-use Prim.Native.Nat.{ℕ, zero, suc, ◌+◌, ◌≤◌}
+use Prim.Native.Nat.{ℕ, zero, suc, ◌+◌, ◌-◌, ◌≤◌}
 use native.Mathlib.Omega.{arith}
-use lib.ListN.{length, drop, length-drop}
+use lib.ListN.{length, take, drop}
 use lib.Seq.{drop-drop}
 use borrow.Author.Tests.{ne_eqb}
 use lib.Dec.{eqb}
 use Rattle.std.specs.Prelude.{Option, Some, None}
 use Rattle.std.specs.Option.{option_map}
 use Rattle.std.specs.List.{find}
+use Rattle.numbers.proofs.Parts.{rest}
 use Rattle.book.specs.Records.{size, walk_from, walk, Record, record_at, records, LookUp, nothing, found, look_up}
 use Rattle.book.specs.declared.records.Record as Code
 use Rattle.book.specs.Walked.{record_in}
@@ -21,17 +22,17 @@ use Rattle.book.proofs.Walk.{walk_law, size_fits}
 abbrev pub records_at : ℕ → List ℕ → List Record
 records_at at s = walk (λ at. []) (λ at r rs. record_at at r ∷ rs) at s
 
-module _ (b : List ℕ) (at : ℕ) where
-  pub no_record : size (drop at b) ≡ 0 → records_at at (drop at b) ≡ []
-  no_record z = walk_law (λ at. []) (λ at r rs. record_at at r ∷ rs) at (drop at b) ∙ rw z
+pub next_fits : (s : List ℕ) (n : ℕ) → size s ≡ n → n ≤ length s
+next_fits s n e = omega (arith, e, size_fits s)
 
-  pub next_record : (n : ℕ) → size (drop at b) ≡ n → 2 ≤ n → records_at at (drop at b) ≡ record_at at (drop at b) ∷ records_at (at + n) (drop (at + n) b)
+module _ (at : ℕ) (s : List ℕ) where
+  pub no_record : size s ≡ 0 → records_at at s ≡ []
+  no_record z = walk_law (λ at. []) (λ at r rs. record_at at r ∷ rs) at s ∙ rw z
+
+  pub next_record : (n : ℕ) → size s ≡ n → 2 ≤ n → records_at at s ≡ record_at at s ∷ records_at (at + n) (take (length s - n) (drop n s))
   next_record n e h =
-      walk_law (λ at. []) (λ at r rs. record_at at r ∷ rs) at (drop at b)
-      ∙ rw (e, ne_eqb n 0 (λ z. omega (arith, z, h)), drop-drop)
-
-  pub next_fits : (n : ℕ) → size (drop at b) ≡ n → 2 ≤ n → at + n ≤ length b
-  next_fits n e h = omega (arith, e, h, size_fits (drop at b), length-drop at b)
+      walk_law (λ at. []) (λ at r rs. record_at at r ∷ rs) at s
+      ∙ rw (e, ne_eqb n 0 (λ z. omega (arith, z, h)), rest s n)
 
 -- what `find` answers
 pub found_is : (p : Record → Bool) (B : List Record) (r : Option Code.Record) → option_map record_in r ≡ find p B → look_of r ≡ look_up p B
@@ -77,3 +78,17 @@ pub found_there : (p : Record → Bool) (b : List ℕ) (r : Option Code.Record) 
 unfolding records walk record_at
 found_there p b None e = e
 found_there p b (Some r) e = ap found (sym (placed p b (length b) 0 (record_in r) (sym e))) ∙ e
+
+pub found_at : (p : Record → Bool) (b : List ℕ) (x : Record) → look_up p (records b) ≡ found x → x ≡ record_at x.offset (drop x.offset b)
+unfolding records walk
+found_at p b x e = placed p b (length b) 0 x e
+
+-- the test holds of what is found
+pub look_holds : (p : Record → Bool) (B : List Record) (x : Record) → look_up p B ≡ found x → p x ≡ true
+unfolding look_up
+look_holds p [] x e = cc
+look_holds p (r ∷ B) x e = go (p r) refl (look_holds p B x)
+  where
+    go : (t : Bool) → p r ≡ t → (look_up p B ≡ found x → p x ≡ true) → p x ≡ true
+    go true h later = let k = rw h at e in let q : r ≡ x = cc in rw (← q) h
+    go false h later = later (rw h at e)

@@ -1,13 +1,14 @@
 -- What the code's answers and maps say, in the definitions' words. Assumes nothing.
-use Rattle.std.specs.Prelude.{◌≡◌, Bool, true, false, ◌&&◌, ℕ, ◌<◌, List, eqb, length, drop, get_or, Option, Some, None, Result, Ok, Err}
-use Rattle.numbers.specs.Bytes.{mem}
+use Rattle.std.specs.Prelude.{◌≡◌, Bool, true, false, ◌&&◌, not, ℕ, ◌+◌, ◌<◌, List, eqb, length, drop, get_or, Option, Some, None, Result, Ok, Err}
+use Rattle.std.specs.List.{list_any}
+use Rattle.numbers.specs.Bytes.{le16, mem}
 use Rattle.numbers.specs.Bits.{bit_at}
 use Rattle.book.specs.declared.Declared.{Declared}
 use Rattle.book.specs.declared.records.Record as Code
 use Rattle.book.specs.declared.checking.Rule.{Rule}
 use Rattle.book.specs.declared.checking.Rule.TheVariants.{R1, R2, R3, R4, R5, R6, R7, R8, R9}
 use Rattle.book.specs.declared.checking.Broken.{Broken}
-use Rattle.book.specs.Records.{Record, record_at, is_field, LookUp, nothing, found, look_up, is_found, is_length, is_bounded}
+use Rattle.book.specs.Records.{Record, record_at, records, is_field, is_group, LookUp, nothing, found, look_up, is_found, is_length, is_count, is_bounded}
 use Rattle.book.specs.Rules.{Opened, once, conflict}
 use Rattle.book.specs.Check.{Verdict, sound, broken}
 use Rattle.book.specs.Walked.{record_in}
@@ -58,6 +59,31 @@ Declares map B = (t : ℕ) → t < 65536 → bit_at map t ≡ is_found (look_up 
 -- a map outside which no tag is a Length or a data
 abbrev pub Pairs : List ℕ → List Record → Type 0
 Pairs map B = (t : ℕ) → t < 65536 → bit_at map t ≡ false → (is_length B t ≡ false) × (is_bounded B t ≡ false)
+
+-- the tag of the record at an offset
+abbrev pub tag_at : List ℕ → ℕ → ℕ
+tag_at book at = le16 (drop (at + 4) book)
+
+-- what was found stands at that offset
+abbrev pub stands_at : LookUp → ℕ → Bool
+stands_at nothing at = false
+stands_at (found r) at = eqb r.offset at
+
+-- a group, and the first of its tag
+abbrev pub is_first_group : List Record → Record → Bool
+is_first_group B r = eqb r.kind 3 && stands_at (look_up (is_group r.tag) B) r.offset
+
+-- at each of the offsets stands the first group of a tag
+abbrev pub AreGroups : List ℕ → List ℕ → Type 0
+AreGroups book os = list_any (λ at. not (stands_at (look_up (is_group (tag_at book at)) (records book)) at)) os ≡ false
+
+-- each group's tag is that of a record at one of the offsets
+abbrev pub AreAllGroups : List ℕ → List ℕ → Type 0
+AreAllGroups book os = (t : ℕ) → is_found (look_up (is_group t) (records book)) ≡ true → list_any (λ at. eqb (tag_at book at) t) os ≡ true
+
+-- the counts are the tags that have a group, as rule 5 wants it
+abbrev pub Grouped : List Record → Type 0
+Grouped B = (t : ℕ) → is_count B t ≡ is_found (look_up (is_group t) B)
 
 -- a field record of that tag, of a datatype that is picked
 abbrev pub is_marked : (ℕ → Bool) → ℕ → Record → Bool

@@ -1,10 +1,10 @@
 -- The code's records, as the definitions' words. Assumes nothing.
-use Rattle.std.specs.Prelude.{ℕ, List, [], ◌∷◌, drop, Option, Some, None}
+use Rattle.std.specs.Prelude.{ℕ, List, [], ◌∷◌, Option, Some, None}
 use Rattle.book.specs.Records.{Record, record_at, walk}
 use Rattle.book.specs.declared.records.Kind.{Kind}
 use Rattle.book.specs.declared.records.Kind.TheVariants.{Field, Message, Group}
 use Rattle.book.specs.declared.records.Record as Code
-use Rattle.book.specs.declared.records.Records.{Records}
+use Rattle.book.specs.declared.scan.Records.{Records}
 
 abbrev pub kind_number : Kind → ℕ
 kind_number Field = 1
@@ -21,4 +21,4 @@ record_in r = record_at r.offset r.bytes.now
 
 -- the records that are still to come
 abbrev pub records_left : Records → List Record
-records_left s = walk (λ at. []) (λ at r rs. record_at at r ∷ rs) s.at (drop s.at s.book.now)
+records_left s = walk (λ at. []) (λ at r rs. record_at at r ∷ rs) s.at s.rest.now

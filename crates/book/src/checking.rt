@@ -6,12 +6,13 @@ ghost use Rattle.book.specs.Records as spec;
 ghost use Rattle.book.specs.Rules.{open_list, open_group, rule9};
 ghost use Rattle.book.specs.Check.{first, rule_of, rules_from, check};
 ghost use Rattle.book.specs.Walked.{record_in};
-ghost use Rattle.book.specs.Answers.{rule_number, told, is_marked, Seen, Opens};
+ghost use Rattle.book.specs.Answers.{rule_number, told, is_marked, Grouped, Seen, Opens};
 
+use crate::groups::{Groups, list_groups};
 use crate::list::Members;
-use crate::lookup::{group_list, is_count};
-use crate::records::{Kind, Record, Records, first_bad_record};
-use crate::rules::{Declaring, Pairing, breaks_2, breaks_3, breaks_4, breaks_7, breaks_8};
+use crate::records::{Kind, Record, first_bad_record};
+use crate::rules::{Declaring, Pairing, breaks_2, breaks_4, breaks_7, breaks_8, never_a_field};
+use crate::scan::Records;
 use crate::{Declared, Map};
 use forms::Datatype;
 use numbers::bits::{mark, test};
@@ -80,11 +81,11 @@ fn first_break<F: Fn(Record) -> bool>(book: &[u8], rule: Rule, breaks: F) -> Res
 }
 
 // Opens a list with its groups, so many levels deep at most; whether a tag stands twice or a group too deep.
-// kept: book and map go side by side, though the map means something: the tags seen so far. Each member adds one, so a struct that says them
+// kept: groups and map go side by side, though the map means something: the tags seen so far. Each member adds one, so a struct that says them
 // would be made anew for each member and for each group below.
-fn open_list(book: &[u8], list: &[u8], depth: usize, map: &mut Map) -> bool
+fn open_list(groups: &Groups, list: &[u8], depth: usize, map: &mut Map) -> bool
     ensures { (seen : List ℕ) → Seen map.old seen
-        → Opens (open_list (open_group (records book.now) depth) seen (members_of list.now)) result map.new }
+        → Opens (open_list (open_group (records groups.now.book.now) depth) seen (members_of list.now)) result map.new }
 {
     for m in Members::of(list) {
         let tag = usize::from(m.tag);
@@ -92,41 +93,65 @@ fn open_list(book: &[u8], list: &[u8], depth: usize, map: &mut Map) -> bool
             return true;
         }
         mark(map, tag);
-        if !is_count(book, m.tag) {
+        let Some(group) = groups.find(m.tag) else {
             continue;
-        }
+        };
         if depth == 0 {
             return true;
         }
-        if open_list(book, group_list(book, m.tag), depth - 1, map) {
+        if open_list(groups, group.list(), depth - 1, map) {
             return true;
         }
     }
     false
 }
 
-fn breaks_9(book: &[u8], r: Record, map: &mut Map) -> bool
-    ensures { result ≡ rule9 (records book.now) (record_in r.entry) }
+fn breaks_9(groups: &Groups, r: Record, map: &mut Map) -> bool
+    ensures { result ≡ rule9 (records groups.now.book.now) (record_in r.entry) }
 {
     if !r.is(Kind::Message) {
         return false;
     }
     map.fill(0);
-    open_list(book, r.list(), 4, map)
+    open_list(groups, r.list(), 4, map)
 }
 
-// Rule 9.
+// Rule 9, of a book whose counts are just the tags that have a group.
 // kept: a closure that writes into the one map did not prove as first_break's; with a map of its own the check's stack was 16 KiB, over 10.
 fn first_nested(book: &[u8], map: &mut Map) -> Result<(), Broken>
+    requires { Grouped (records book.now) }
     ensures { told result ≡ first 9 (rule_of 9 (records book.now)) (records book.now) }
 {
+    let mut offsets = [0; 680];
+    let groups = list_groups(book, &mut offsets);
     for r in Records::of(book) {
-        if breaks_9(book, r, map) {
+        if breaks_9(&groups, r, map) {
             return Err(Broken {
                 rule: Rule::R9,
                 offset: r.offset,
             });
         }
+    }
+    Ok(())
+}
+
+// Rule 3, over a map of the tags that the fields before declare.
+fn first_repeated(book: &[u8], map: &mut Map) -> Result<(), Broken>
+    ensures { told result ≡ first 3 (rule_of 3 (records book.now)) (records book.now) }
+{
+    map.fill(0);
+    for r in Records::of(book) {
+        if !r.is(Kind::Field) {
+            continue;
+        }
+        let tag = r.tag();
+        if never_a_field(tag) | test(map, usize::from(tag)) {
+            return Err(Broken {
+                rule: Rule::R3,
+                offset: r.offset,
+            });
+        }
+        mark(map, usize::from(tag));
     }
     Ok(())
 }
@@ -158,7 +183,7 @@ fn rules(book: &[u8], map: &mut Map) -> Result<(), Broken>
     ensures { told result ≡ rules_from 8 2 (records book.now) }
 {
     first_break(book, Rule::R2, |r| breaks_2(r))?;
-    first_break(book, Rule::R3, |r| breaks_3(book, r))?;
+    first_repeated(book, map)?;
     first_break(book, Rule::R4, |r| breaks_4(book, r))?;
     first_undeclared(book, map)?;
     first_unpaired(book, map)?;

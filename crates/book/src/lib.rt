@@ -7,10 +7,12 @@ ghost use Rattle.forms.specs.Numbered.{number_of};
 use forms::Datatype;
 
 mod checking;
+mod groups;
 pub mod list;
 pub mod lookup;
 pub mod records;
 mod rules;
+mod scan;
 
 pub use checking::{Broken, Rule, check};
 

@@ -7,7 +7,8 @@ ghost use Rattle.book.specs.Answers.{found_in, look_of, type_told, partner_told,
 
 use crate::Declared;
 use crate::list::Members;
-use crate::records::{Kind, Record, Records};
+use crate::records::{Kind, Record};
+use crate::scan::Records;
 use forms::Datatype;
 
 // The first record of that kind and tag.

@@ -1,12 +1,11 @@
 // The records of a book, and what each of them holds.
 ghost use Rattle.std.specs.Prelude.{◌≡◌, ◌≤◌, ℕ, MatchOption, eqb, drop};
-ghost use Rattle.std.specs.Iterator.{YieldsFirstBy, item_count};
 ghost use Rattle.numbers.specs.Bytes.{le16};
-ghost use Rattle.book.specs.Records.{size, stop, kind_of, member_bytes, members_of, records, is_kind};
-ghost use Rattle.book.specs.Walked.{kind_number, kind_in, record_in, records_left};
+ghost use Rattle.book.specs.Records.{size, stop, kind_of, member_bytes, members_of, is_kind};
+ghost use Rattle.book.specs.Walked.{kind_number, kind_in, record_in};
 
 use crate::Declared;
-use numbers::{part, rest, u16_at};
+use numbers::{part, u16_at};
 
 // The kinds of records, each with its number in the book.
 #[derive(Clone, Copy, Debug, PartialEq, Eq)]
@@ -36,7 +35,10 @@ pub struct Record<'a> {
 pub fn record_size(s: &[u8]) -> Option<usize>
     ensures { MatchOption result (size s.now ≡ 0) (λ n. (size s.now ≡ n) × (2 ≤ n)) }
 {
-    let n = usize::from(u16_at(s, 0));
+    let [low, high, ..] = s else {
+        return None;
+    };
+    let n = usize::from(u16::from_le_bytes([*low, *high]));
     if 2 <= n && 2 + n <= s.len() {
         return Some(2 + n);
     }
@@ -87,10 +89,14 @@ impl<'a> Record<'a> {
         self.kind() == Some(kind)
     }
 
+    // kept: u16_at alone says the same; this way a step of a scan tests the length once.
     pub(crate) fn tag(self) -> u16
         ensures { result ≡ (record_in self.entry).tag }
     {
-        u16_at(self.bytes, 4)
+        match self.bytes {
+            [_, _, _, _, low, high, ..] => u16::from_le_bytes([*low, *high]),
+            short => u16_at(short, 4),
+        }
     }
 
     // The tag first: it decides nearly every step of a scan.
@@ -120,40 +126,6 @@ impl<'a> Record<'a> {
         ensures { members_of result.now ≡ (record_in self.entry).members }
     {
         record_members(self.bytes)
-    }
-}
-
-// The records from an offset on.
-#[derive(Clone, Copy, Debug)]
-pub(crate) struct Records<'a> {
-    book: &'a [u8],
-    at: usize,
-}
-
-impl<'a> Records<'a> {
-    #[tactic(auto, unfolding(crate::specs::Records::records))]
-    pub(crate) fn of(book: &'a [u8]) -> Self
-        ensures { records_left result ≡ records book.now }
-    {
-        Records { book, at: 0 }
-    }
-}
-
-impl<'a> Iterator for Records<'a> {
-    type Item = Record<'a>;
-
-    ghost next_gives = { YieldsFirstBy record_in records_left };
-
-    ghost remaining = { item_count records_left };
-
-    #[tactic(auto, using(crate::proofs::Look::no_record, crate::proofs::Look::next_record))]
-    fn next(&mut self) -> Option<Record<'a>> {
-        let record = Record {
-            offset: self.at,
-            bytes: rest(self.book, self.at),
-        };
-        self.at += record_size(record.bytes)?;
-        Some(record)
     }
 }
 

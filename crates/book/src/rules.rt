@@ -4,7 +4,7 @@ ghost use Rattle.numbers.specs.Bytes.{mem};
 ghost use Rattle.forms.specs.Numbered.{number_of};
 ghost use Rattle.book.specs.Records.{members_of, records, type_of, partner, is_length, is_count, is_bounded, is_group, look_up};
 ghost use Rattle.book.specs.Records as spec;
-ghost use Rattle.book.specs.Rules.{good_type_text, first_at, partnered, good_members, paired, starts_required, rule2, rule3, rule4, rule5, rule6, rule7, rule8};
+ghost use Rattle.book.specs.Rules.{good_type_text, first_at, partnered, good_members, paired, starts_required, rule2, rule4, rule5, rule6, rule7, rule8};
 ghost use Rattle.book.specs.Walked.{record_in};
 ghost use Rattle.book.specs.Answers.{look_of, type_told, partner_told, Declares, Pairs};
 
@@ -46,18 +46,10 @@ pub fn breaks_2(r: Record) -> bool
 }
 
 #[tactic(auto, unfolding(numbers::specs::Bytes::mem))]
-fn never_a_field(tag: u16) -> bool
+pub fn never_a_field(tag: u16) -> bool
     ensures { result ≡ mem tag (0 ∷ 8 ∷ 9 ∷ 35 ∷ 10 ∷ []) }
 {
     matches!(tag, 0 | 8 | 9 | 35 | 10)
-}
-
-#[tactic(auto, unfolding(crate::specs::Rules::rule3))]
-pub fn breaks_3(book: &[u8], r: Record) -> bool
-    ensures { result ≡ rule3 (records book.now) (record_in r.entry) }
-{
-    r.is(Kind::Field)
-        && (never_a_field(r.tag()) || !is_first(find_of(book, Kind::Field, r.tag()), r))
 }
 
 // Whether partner p is declared as t, and names the tag back.

@@ -1,5 +1,5 @@
 -- What the program prints for any standard input. Assumes nothing.
-use Rattle.std.specs.Prelude.{ℕ, ◌+◌, ◌*◌, Bool, true, false, List, [], ◌∷◌, ◌++◌, ltb, length, take, drop}
+use Rattle.std.specs.Prelude.{ℕ, ◌+◌, ◌*◌, true, false, List, [], ◌∷◌, ◌++◌, ltb, length, take, drop}
 use Rattle.numbers.specs.Bytes.{bytes, le16}
 use Rattle.numbers.specs.Decimal.{render}
 use Rattle.message.specs.Rows.{Row, width}

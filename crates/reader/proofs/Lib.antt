@@ -6,3 +6,10 @@ pub mod Fielding
 pub mod Cuts
 pub mod Framing
 pub mod Taking
+pub mod Marking
+pub mod Going
+pub mod ItemLaws
+pub mod OwnLaws
+pub mod StageLaws
+pub mod ReadLaws
+pub mod FillLaws

@@ -52,7 +52,7 @@ none_large t (suc f) at s l h = go (eqb (size s) 0) refl (none_large t f (at + s
     go true e ih = rw e
     go false e ih = rw (e, other, and-false (eqb (record_at at s).kind 1)) ih
 
-records_walk : (b : List ℕ) → records b ≡ walk_from (λ at. []) (λ at r rs. record_at at r ∷ rs) (length b) 0 b
+pub records_walk : (b : List ℕ) → records b ≡ walk_from (λ at. []) (λ at r rs. record_at at r ∷ rs) (length b) 0 b
 unfolding records walk
 records_walk b = refl
 

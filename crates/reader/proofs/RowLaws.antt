@@ -4,11 +4,12 @@ use mathlib.Core.Bool.{Bool, true, false, cond}
 use mathlib.Core.List.{List, [], ◌∷◌, ◌++◌, map, append_assoc}
 use Prim.Native.Nat.{ℕ, suc, ◌+◌, ◌-◌, ◌*◌, ◌/◌, ◌%◌, ◌≤◌, ◌<◌}
 use native.Mathlib.Omega.{arith}
-use native.Mathlib.Nat.{add-zero, le-add_right}
+use native.Mathlib.Nat.{add-zero, le-add_right, mul-suc, mul-add}
 use borrow.Author.Tests.{le-leb}
 use lib.Dec.{leb}
 use lib.ListN.{length, length-map, get_or, take, drop, length-append}
 use lib.Seq.{sets, sets-eq, length-sets}
+use Rattle.std.specs.Prelude.{set}
 use borrow.Rule.Slice.PartMut.{put_mid, Post-is}
 use Rattle.std.specs.Array.{IsMapOf}
 use Rattle.std.specs.Fn.{Mut, Called}
@@ -52,10 +53,22 @@ pairs_flat g f l ps n m e each = ap (flat_map (λ p. p)) are ∙ flat_pairs l
     are : ps ≡ map pair_of l
     are = ext_get_or [] ps (map pair_of l) (m.long ∙ sym (length-map l pair_of ∙ e)) at
 
+-- one part put behind another
+sets_more : (xs l : List ℕ) (i : ℕ) (ys : List ℕ) → sets (sets l i xs) (i + length xs) ys ≡ sets l i (xs ++ ys)
+sets_more [] l i ys = rw (add-zero i)
+sets_more (x ∷ xs) l i ys = let e : i + suc (length xs) ≡ suc i + length xs = omega arith in rw e (sets_more xs (set l i x) (suc i) ys)
+
+mul_more : (s k n : ℕ) → s * (k + suc n) ≡ s * k + s + s * n
+mul_more s k n = let e : k + suc n ≡ suc (k + n) = omega arith in rw (e, mul-suc s (k + n), mul-add s k n) (omega arith)
+
 module _ (size : ℕ) (numbers : Row → List ℕ) where
   pub rows_one : (i : List ℕ) (k : ℕ) (r : Row) → put_row size numbers i k r ≡ put_rows size numbers i k (r ∷ [])
   unfolding put_rows
   rows_one i k r = refl
+
+  pub rows_two : (i j o : List ℕ) (k : ℕ) (r p : Row) → j ≡ put_row size numbers i k r → o ≡ put_row size numbers j (k + 1) p → o ≡ put_rows size numbers i k (r ∷ p ∷ [])
+  unfolding put_rows
+  rows_two i j o k r p e f = let n : k + 1 ≡ suc k = omega arith in f ∙ rw (e, n)
 
   pub rows_then : (i : List ℕ) (k : ℕ) (q p : List Row) → put_rows size numbers (put_rows size numbers i k q) (k + length q) p ≡ put_rows size numbers i k (q ++ p)
   unfolding put_rows
@@ -80,6 +93,23 @@ module _ (size : ℕ) (numbers : Row → List ℕ) where
   flat_by (r ∷ q) = numbers r ++ flat_by q
 
   module _ (wide : (r : Row) → length (numbers r) ≡ size) where
-    flat_length : (q : List Row) → length (flat_by q) ≡ size * length q
+    pub flat_length : (q : List Row) → length (flat_by q) ≡ size * length q
     flat_length [] = sym (native.Mathlib.Nat.mul-zero size)
     flat_length (r ∷ q) = length-append (numbers r) (flat_by q) ∙ rw (wide r, flat_length q, native.Mathlib.Nat.mul-suc size (length q)) (omega arith)
+
+  -- rows that all have room
+  module _ (wide : (r : Row) → length (numbers r) ≡ size) where
+    pub rows_sets : (q : List Row) (i : List ℕ) (k : ℕ) → size * (k + length q) ≤ length i → put_rows size numbers i k q ≡ sets i (size * k) (flat_by q)
+    unfolding put_rows
+    rows_sets [] i k h = refl
+    rows_sets (r ∷ q) i k h =
+        let n : size * (k + suc (length q)) ≡ size * k + size + size * length q = rw (mul_more size k (length q)) refl in
+        let fits : size * k + size ≤ length i = omega (arith, n, h) in
+        let there : put_row size numbers i k r ≡ sets i (size * k) (numbers r) = rw (le-leb (size * k + size) (length i) fits) in
+        let e : size * suc k ≡ size * k + length (numbers r) = rw (wide r, mul-suc size k) (omega arith) in
+        let m : size * (suc k + length q) ≡ size * (k + suc (length q)) = ap (λ n. size * n) (omega arith) in
+        rw there (
+        rows_sets q (sets i (size * k) (numbers r)) (suc k) (rw (m, length-sets i (size * k) (numbers r)) h)
+        ∙ ap (λ n. sets (sets i (size * k) (numbers r)) n (flat_by q)) e
+        ∙ sets_more (numbers r) i (size * k) (flat_by q)
+        )

@@ -8,6 +8,7 @@ use Rattle.reader.specs.declared.refusal.Refused.{Refused}
 use Rattle.reader.specs.Fields.{Cut, uncut, cut_at}
 use Rattle.reader.specs.Frame.{Framed, framed, misframed}
 use Rattle.reader.specs.Refusals.{number, tag_of}
+use Rattle.reader.specs.Reading.{Told}
 
 -- the value from a place on of a field that ends before e, its `|` left out
 abbrev pub value_in : List ℕ → ℕ → ℕ → List ℕ
@@ -42,3 +43,8 @@ pub record Ends (s : List ℕ) (a b c : ℕ) : Type 0 where
 abbrev pub Inside : List ℕ → Result Code.Framed Refused → Type 0
 Inside s (Ok f) = Ends s f.version_end f.length_end f.type_end
 Inside s (Err r) = (r.at ≤ length s) × (tag_of r.why ≡ 0)
+
+-- document 01's number, place, tag and count of a reading's answer
+abbrev pub told_by : Result ℕ Refused → Told
+told_by (Ok n) = record { number = 0; place = 0; tag = 0; count = n }
+told_by (Err r) = record { number = number r.why; place = r.at; tag = tag_of r.why; count = 0 }

@@ -7,3 +7,5 @@ pub mod Met
 pub mod Refusals
 pub mod Taken
 pub mod Answers
+pub mod Marked
+pub mod Rowed

@@ -1,14 +1,22 @@
 -- What the code's structs and enums say, in the definitions' words. Assumes nothing.
-use Rattle.std.specs.Prelude.{◌≡◌, Bool, false, ◌||◌, ℕ, ◌+◌, ◌≤◌, List, [], eqb, length, drop, Option, Some, None, Result, Ok, IsErrAnd}
+use Rattle.std.specs.Prelude.{◌≡◌, Bool, false, cond, ◌||◌, ℕ, ◌+◌, ◌-◌, ◌≤◌, ◌<◌, List, [], ◌∷◌, eqb, length, drop, Option, Some, None, Result, Ok, IsErrAnd}
 use Rattle.std.specs.List.{list_any}
+use denote.Bor.{Bor}
 use Rattle.std.specs.Option.{option_map_or}
-use Rattle.numbers.specs.Bytes.{le16}
-use Rattle.book.specs.Records.{Member, members_of, member_bytes, records}
+use Rattle.forms.specs.Numbered.{number_of}
+use Rattle.book.specs.Records.{Member, members_of, records}
 use Rattle.message.specs.Arrangement.{Page}
 use Rattle.message.specs.Permitted.{Miss, none, lacks}
+use Rattle.message.specs.Rows.{Row}
 use Rattle.reader.specs.declared.Sought.{Sought}
 use Rattle.reader.specs.declared.Step.{Step}
 use Rattle.reader.specs.declared.Step.TheVariants.{Done, Ask}
+use Rattle.reader.specs.declared.Field.{Field}
+use Rattle.reader.specs.declared.Grabbed.{Grabbed}
+use Rattle.reader.specs.declared.Grabbed.TheVariants.{Single, Pair}
+use Rattle.reader.specs.declared.Spot.{Spot}
+use Rattle.reader.specs.declared.Within.{Within}
+use Rattle.reader.specs.declared.Scan.{Scan}
 use Rattle.reader.specs.declared.page.Page as Code
 use Rattle.reader.specs.declared.closing.Group.{Group}
 use Rattle.reader.specs.declared.refusal.Refused.{Refused}
@@ -25,25 +33,68 @@ miss_of (Some t) = lacks t
 abbrev pub sought_in : List ℕ → Sought → Seek
 sought_in l r = option_map_or (λ at. met (miss_of r.missing) (members_of (drop at l))) r.place (passed (miss_of r.missing))
 
--- the members of the record at an offset
-unfoldable pub list_at : List ℕ → ℕ → List Member
-unfolding members_of
-list_at book at = members_of (member_bytes (le16 (drop at book)) (le16 (drop 2 (drop at book))) (drop at book))
-
 abbrev pub page_of : Code.Page → Page
 page_of p = record { book = records p.book.now; own = members_of p.own.now }
 
--- a field may begin with this tag in the list of a group, if there is one
-abbrev pub group_by : Code.Page → ℕ → Option ℕ → Bool
-group_by p u g = option_map_or (λ at. starts (page_of p) (list_at p.book.now at) u) g false
-
 -- a field may begin with this tag in an open list, or the message ends
-abbrev pub outer_by : Code.Page → List (Option ℕ) → ℕ → Bool
-outer_by p groups u = list_any (group_by p u) groups || (eqb u 0 || starts (page_of p) (members_of p.own.now) u)
+abbrev pub outer_by : Code.Page → List (Bor (List ℕ)) → ℕ → Bool
+outer_by p groups u = list_any (λ l. starts (page_of p) (members_of l.now) u) groups || (eqb u 0 || starts (page_of p) (members_of p.own.now) u)
 
 -- an instance may end with this tag behind it
 abbrev pub ends_by : Group → ℕ → Bool
 ends_by g u = is_first (members_of g.list.now) u || outer_by g.page g.around u
+
+-- the members of its list
+abbrev pub list_of : Group → List Member
+list_of g = members_of g.list.now
+
+-- a field may begin with this tag in its list, or in one that is open around it
+abbrev pub inner_by : Group → ℕ → Bool
+inner_by g u = starts (page_of g.page) (list_of g) u || outer_by g.page g.around u
+
+-- the rows of what was taken off, and the place behind it
+abbrev pub field_row : Within → Field → Row
+field_row w f = record { tag = f.tag; value_start = f.start; value_length = f.end - f.start; depth = w.depth; count_row = w.count; instance = w.instance }
+
+abbrev pub grab_rows : Within → Grabbed → List Row
+grab_rows w (Single f y) = field_row w f ∷ []
+grab_rows w (Pair l d) = field_row w l ∷ field_row w d ∷ []
+
+abbrev pub grab_end : Grabbed → ℕ
+grab_end (Single f y) = f.end + 1
+grab_end (Pair l d) = d.end + 1
+
+-- the count's own field, where a count was taken off
+abbrev pub count_in : Grabbed → Option Field
+count_in (Single f y) = cond (eqb (number_of y) 7) (Some f) None
+count_in (Pair l d) = None
+
+abbrev pub Short : Field → Type 0
+Short f = (f.start ≤ f.end) × (f.end < 65535)
+
+abbrev pub AllShort : Grabbed → Type 0
+AllShort (Single f y) = Short f
+AllShort (Pair l d) = Short l × Short d
+
+-- no group stands in any of these
+abbrev pub Spare : List (Bor (List ℕ)) → Type 0
+Spare [] = Unit {0}
+Spare (l ∷ r) = (members_of l.now ≡ []) × Spare r
+
+-- an item can be read at a place, with so many levels left
+pub record Ready (s : Scan) (around : List (Bor (List ℕ))) (depth : ℕ) (p : Spot) : Type 0 where
+  pub short : length s.m.now ≤ 8192
+  pub inside : p.at ≤ length s.m.now
+  pub rows : p.row ≤ p.at
+  pub left : depth ≤ 4
+  pub spare : Spare (drop (4 - depth) around)
+
+-- a message's own list can be read from a place on
+pub record Begun (s : Scan) (p : Spot) : Type 0 where
+  pub short : length s.m.now ≤ 8192
+  pub inside : p.at ≤ length s.m.now
+  pub rows : p.row ≤ p.at
+  pub listed : length (members_of s.page.own.now) ≤ 4096
 
 -- a refusal with this number and tag at a place
 abbrev pub Refuses : ℕ → ℕ → ℕ → Result Step Refused → Type 0
@@ -55,15 +106,15 @@ Says s at k (full q a r) x = (q ≡ []) × (a ≡ at) × (r ≡ s) × (x ≡ Ok 
 Says s at k (poor n t r) x = (r ≡ s) × Refuses n t at x
 Says s at k (ask t) x = x ≡ Ok (Ask t)
 
--- an answer that reads from a place on in m, and puts rows from k on into index and bytes
-abbrev pub Meets : List ℕ → ℕ → ℕ → Fill → Result Step Refused → List ℕ → List ℕ → List ℕ → List ℕ → Type 0
-Meets m at k (full q a r) x i j b d =
+-- an answer that reads from a place on in m, so many bytes at least, and puts rows from k on into index and bytes
+abbrev pub Meets : ℕ → List ℕ → ℕ → ℕ → Fill → Result Step Refused → List ℕ → List ℕ → List ℕ → List ℕ → Type 0
+Meets least m at k (full q a r) x i j b d =
     (x ≡ Ok (Done a (k + length q)))
     × (r ≡ drop a m)
     × (a ≤ length m)
-    × (at + 1 ≤ a)
+    × (at + least ≤ a)
     × (at + length q ≤ a)
     × (j ≡ put_rows 6 row_numbers i k q)
     × (d ≡ put_rows 12 row_bytes b k q)
-Meets m at k (poor n t r) x i j b d = (p : ℕ) × Refuses n t p x × (r ≡ drop p m) × (p ≤ length m)
-Meets m at k (ask t) x i j b d = x ≡ Ok (Ask t)
+Meets least m at k (poor n t r) x i j b d = (p : ℕ) × Refuses n t p x × (r ≡ drop p m) × (p ≤ length m)
+Meets least m at k (ask t) x i j b d = x ≡ Ok (Ask t)

@@ -1,16 +1,16 @@
 // Where an instance or the message ends, or a tag leads no further.
-ghost use Rattle.std.specs.Prelude.{◌≡◌, Bool, false, cond, ◌||◌, List, [], ℕ};
+ghost use Rattle.std.specs.Prelude.{◌≡◌, Bool, false, cond, ◌||◌, List, [], ◌∷◌, ℕ, eqb, take};
 ghost use Rattle.book.specs.Records.{members_of};
 ghost use Rattle.reader.specs.Fields.{peek};
-ghost use Rattle.reader.specs.Items.{starts};
-ghost use Rattle.reader.specs.Filling.{poor, late_fill, f_refuse, f_close};
-ghost use Rattle.reader.specs.Met.{miss_of, page_of, ends_by, Says};
+ghost use Rattle.reader.specs.Items.{is_first, starts};
+ghost use Rattle.reader.specs.Filling.{Fill, full, poor, late_fill, f_refuse, f_close, f_inst, f_closed};
+ghost use Rattle.reader.specs.Met.{miss_of, page_of, ends_by, list_of, Says};
 
 use crate::fields::TORN;
 use crate::lists::{has_tag, is_first};
 use crate::page::Page;
 use crate::refusal::{Refusal, Refused};
-use crate::{Open, Step};
+use crate::{Open, Spot, Step};
 
 // The tag that stands at a place, as peek says it.
 // kept: a u32, here and in Watch, since the public functions below answer for every u32, TORN too, as those in lists do.
@@ -28,12 +28,30 @@ pub struct Watch {
     pub hit: bool,
 }
 
+impl Watch {
+    pub(crate) fn new(tag: u32) -> Watch
+        ensures { result ≡ record { tag = tag; hit = false } }
+    {
+        Watch { tag, hit: false }
+    }
+
+    // The same with this tag in the instance too.
+    pub(crate) fn seen(self, tag: u32) -> Watch
+        ensures { result ≡ record { tag = self.tag; hit = eqb self.tag tag || self.hit } }
+    {
+        Watch {
+            hit: self.tag == tag || self.hit,
+            ..self
+        }
+    }
+}
+
 // A group that is being read: its list, and the groups that are open around it.
 #[derive(Clone, Copy, Debug)]
 pub struct Group<'a> {
     pub page: Page<'a>,
     pub list: &'a [u8],
-    pub around: Open,
+    pub around: Open<'a>,
 }
 
 // A member already in this instance 10, one earlier in the list 9; of a tag that is not watched it is not known.
@@ -69,7 +87,7 @@ pub fn refuse(page: &Page, list: &[u8], head: Head, watch: Watch) -> Result<Step
     Err(Refusal::Place.at(head.at))
 }
 
-impl Group<'_> {
+impl<'a> Group<'a> {
     // An instance may end with this tag behind it.
     fn may_end(&self, tag: u32) -> bool
         ensures { result ≡ ends_by self.now tag }
@@ -108,10 +126,38 @@ impl Group<'_> {
         if self.page.begins(self.list, head.tag) || self.may_end(head.tag) {
             return Err(Refusal::Instances.at(head.at));
         }
-        let watch = Watch {
-            tag: watch,
-            hit: false,
-        };
-        refuse(&self.page, &[], head, watch)
+        refuse(&self.page, &[], head, Watch::new(watch))
+    }
+
+    // The same of the tag that stands where the first member is due; a group that has no members has no instance.
+    pub(crate) fn no_first(&self, head: Head, watch: u32) -> Result<Step, Refused>
+        ensures { (s : List ℕ) (k : ℕ) (read : ℕ → ℕ → List ℕ → Fill) → peek s ≡ head.tag → is_first (list_of self.now) head.tag ≡ false
+            → Says s head.at k (f_inst (page_of self.now.page) watch read (list_of self.now) (ends_by self.now) (list_of self.now) head.at k s) result }
+    {
+        if 4 <= self.list.len() {
+            return self.no_instance(head, watch);
+        }
+        Err(Refusal::Instances.at(head.at))
+    }
+
+    // Behind the last instance the first member once more is one beyond n.
+    pub(crate) fn end(&self, tag: u32, spot: Spot) -> Result<Step, Refused>
+        ensures { (s : List ℕ) (w : ℕ) → peek s ≡ tag → Says s spot.at spot.row (f_closed (page_of self.now.page) w (list_of self.now) (full [] spot.at s)) result }
+    {
+        if is_first(self.list, tag) {
+            return Err(Refusal::Instances.at(spot.at));
+        }
+        Ok(Step::Done {
+            at: spot.at,
+            row: spot.row,
+        })
+    }
+
+    // The groups that are open within this one, innermost first.
+    pub(crate) fn opened(&self) -> Open<'a>
+        ensures { result ≡ self.now.list ∷ take 3 self.now.around }
+    {
+        let [a, b, c, _] = self.around;
+        [self.list, a, b, c]
     }
 }

@@ -2,12 +2,10 @@
 ghost use Rattle.std.specs.Prelude.{◌≡◌, ◌&&◌};
 ghost use Rattle.book.specs.Records.{members_of, records, is_bounded};
 ghost use Rattle.reader.specs.Items.{starts, has_place};
-ghost use Rattle.reader.specs.Met.{page_of, group_by, outer_by};
+ghost use Rattle.reader.specs.Met.{page_of, outer_by};
 
 use crate::Open;
 use crate::lists::{has_tag, is_bounded, stands_in};
-use book::records::record_members;
-use numbers::rest;
 
 // A book, and the members of the message's own list.
 #[derive(Clone, Copy, Debug)]
@@ -25,23 +23,11 @@ impl Page<'_> {
         has_tag(list, tag) && !is_bounded(self.book, tag)
     }
 
-    #[tactic(auto, unfolding(crate::specs::Met::list_at))]
-    fn begins_in(&self, group: Option<u16>, tag: u32) -> bool
-        ensures { result ≡ group_by self.now tag group }
-    {
-        let Some(at) = group else {
-            return false;
-        };
-        self.begins(record_members(rest(self.book, usize::from(at))), tag)
-    }
-
     // A field may begin with this tag in an open list, or the message ends.
     pub fn is_open(&self, groups: Open, tag: u32) -> bool
-        ensures { result ≡ outer_by self.now groups tag }
+        ensures { result ≡ outer_by self.now groups.entry tag }
     {
-        groups.iter().any(|group| self.begins_in(*group, tag))
-            || tag == 0
-            || self.begins(self.own, tag)
+        groups.iter().any(|list| self.begins(list, tag)) || tag == 0 || self.begins(self.own, tag)
     }
 
     #[tactic(auto, unfolding(crate::specs::Items::has_place))]

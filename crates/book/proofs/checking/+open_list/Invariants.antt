@@ -13,4 +13,4 @@ decreases-open_list l = l.depth
 abbrev pub invariant-loop-m : goal.invariant-loop-m
 invariant-loop-m l =
     (goal.iterator-loop-m).can_next l.m-iterator × (goal.iterator-loop-m).is_finite l.m-iterator
-    × ((seen : List ℕ) → Seen l.fn.map seen → let f = open_group (records l.book) l.depth in Ahead f (open_list f seen (members_of l.list)) l.map (members_left l.m-iterator))
+    × ((seen : List ℕ) → Seen l.fn.map seen → let f = open_group (records l.groups.book.now) l.depth in Ahead f (open_list f seen (members_of l.list)) l.map (members_left l.m-iterator))

@@ -1,0 +1,30 @@
+-- The program's answer by an input's parts. Assumes nothing.
+use Rattle.std.proofs.Common.{◌≡◌, refl, Bool, true, false, ◌+◌, ℕ, List, length, take, drop, ltb}
+use Rattle.std.specs.Prelude.{Ok, Err}
+use Rattle.numbers.specs.Bytes.{le16}
+use Rattle.reader.specs.Reading.{refused, read}
+use Rattle.console.specs.declared.input.Cut.{Cut}
+use Rattle.console.specs.declared.input.Cut.TheVariants.{Large, Bad}
+use Rattle.console.specs.Program.{decided, full_room}
+use Rattle.console.specs.Input.{parts, answered, cut_number}
+
+-- whatever the three tests say
+by_tests : (a b c : Bool) (book message : List ℕ)
+    → elim a [ true ↦ refused 16 0 0 | false ↦ elim b [ true ↦ refused 1 0 0 | false ↦ elim c [ true ↦ refused 16 0 0 | false ↦ read book message full_room ] ] ]
+    ≡ answered (elim a [ true ↦ Err Bad | false ↦ elim b [ true ↦ Err Large | false ↦ elim c [ true ↦ Err Bad | false ↦ Ok (book, message) ] ] ])
+by_tests true b c book message = refl
+by_tests false true c book message = refl
+by_tests false false true book message = refl
+by_tests false false false book message = refl
+
+pub decided_is : (input : List ℕ) → decided input ≡ answered (parts input)
+unfolding decided parts
+decided_is input =
+    by_tests (ltb (length input) 2) (ltb 16384 (le16 input)) (ltb (length input) (2 + le16 input)) (take (le16 input) (drop 2 input)) (drop (2 + le16 input) input)
+
+-- by an answer in hand
+pub decided_ok : (input book message : List ℕ) → parts input ≡ Ok (book, message) → decided input ≡ read book message full_room
+decided_ok input book message e = rw (decided_is input, e)
+
+pub decided_err : (input : List ℕ) (c : Cut) → parts input ≡ Err c → decided input ≡ refused (cut_number c) 0 0
+decided_err input c e = rw (decided_is input, e)

@@ -1,0 +1,167 @@
+// The fields between 35 and 10: "an instance may hold a further group". Group reader and instance reader call each other, and at every call
+// the depth that is left and the bytes left together fall.
+ghost use Rattle.std.specs.Prelude.{◌≡◌, ◌+◌, ◌≤◌, ◌<◌, length, drop};
+ghost use Rattle.reader.specs.Filling.{put_row, put_rows, row_numbers, row_bytes, f_item, f_inst};
+ghost use Rattle.reader.specs.Met.{page_of, outer_by, inner_by, ends_by, list_of, count_in, grab_rows, grab_end, field_row, AllShort, Ready, Meets};
+
+use crate::closing::{Group, Head, Watch};
+use crate::fields::{count_of, grab, peek};
+use crate::lists::{is_first, seek};
+use crate::refusal::{Refusal, Refused};
+use crate::rows::put_row;
+use crate::{Field, Grabbed, Open, Scan, Spot, Step, Within};
+use book::lookup::group_list;
+use forms::Datatype;
+use message::Row;
+
+pub(crate) fn put_field(
+    field: Field,
+    within: Within,
+    row: usize,
+    index: &mut [u16],
+    bytes: &mut [u8],
+)
+    requires { (field.start ≤ field.end) × (field.end < 65535) × (row ≤ 8192) }
+    ensures { (index.new ≡ put_row 6 row_numbers index.old row (field_row within field))
+        × (bytes.new ≡ put_row 12 row_bytes bytes.old row (field_row within field)) }
+{
+    let stated = Row {
+        tag: field.tag,
+        start: field.start as u16,
+        length: (field.end - field.start) as u16,
+        depth: within.depth,
+        count: within.count,
+        instance: within.instance,
+    };
+    put_row(index, bytes, row, stated);
+}
+
+// Puts down what was taken off, a row or two, and tells what comes behind it.
+fn put_taken(
+    taken: Grabbed,
+    within: Within,
+    row: usize,
+    index: &mut [u16],
+    bytes: &mut [u8],
+) -> Spot
+    requires { AllShort taken × (row ≤ 8191) }
+    ensures { (index.new ≡ put_rows 6 row_numbers index.old row (grab_rows within taken))
+        × (bytes.new ≡ put_rows 12 row_bytes bytes.old row (grab_rows within taken))
+        × (result ≡ record { at = grab_end taken; row = row + length (grab_rows within taken) }) }
+{
+    match taken {
+        Grabbed::Single { field, .. } => {
+            put_field(field, within, row, index, bytes);
+            Spot {
+                at: field.end + 1,
+                row: row + 1,
+            }
+        }
+        Grabbed::Pair { length, data } => {
+            put_field(length, within, row, index, bytes);
+            put_field(data, within, row + 1, index, bytes);
+            Spot {
+                at: data.end + 1,
+                row: row + 2,
+            }
+        }
+    }
+}
+
+// The count's own field, where a count was taken off.
+fn count_in(taken: Grabbed) -> Option<Field>
+    ensures { result ≡ count_in taken }
+{
+    match taken {
+        Grabbed::Single { field, datatype } if datatype == Datatype::NumInGroup => Some(field),
+        _ => None,
+    }
+}
+
+// The group reader: a field or a Length with its data; and where it is a count, its own field and then its instances.
+#[cycle(items)]
+pub(crate) fn item<'a>(
+    scan: &Scan<'a>,
+    around: Open<'a>,
+    depth: usize,
+    within: Within,
+    spot: Spot,
+    index: &mut [u16],
+    bytes: &mut [u8],
+) -> Result<Step, Refused>
+    requires { Ready scan.now around depth spot × (within.depth + depth ≤ 4) }
+    ensures { Meets 1 scan.now.m.now spot.at spot.row
+        (f_item (page_of scan.now.page) scan.now.watch (depth + 1) (outer_by scan.now.page around.entry) within.depth within.count within.instance
+        spot.at spot.row (drop spot.at scan.now.m.now)) result index.old index.new bytes.old bytes.new }
+{
+    let taken = grab(scan.page.book, scan.m, spot.at)?;
+    let mut next = put_taken(taken, within, spot.row, index, bytes);
+    let Some(field) = count_in(taken) else {
+        return Ok(Step::Done {
+            at: next.at,
+            row: next.row,
+        });
+    };
+    let group = Group {
+        page: scan.page,
+        list: group_list(scan.page.book, field.tag),
+        around,
+    };
+    for done in 0..count_of(scan.m, field.start, field.end) {
+        let inside = Within {
+            depth: within.depth + 1,
+            count: spot.row as u16,
+            instance: done as u16 + 1,
+        };
+        let step = instance(scan, &group, depth, inside, next, index, bytes)?;
+        let Step::Done { at, row } = step else {
+            return Ok(step);
+        };
+        next = Spot { at, row };
+    }
+    group.end(peek(scan.m, next.at), next)
+}
+
+// The instance reader: down the group's list, from its first member on.
+#[cycle(items)]
+fn instance<'a>(
+    scan: &Scan<'a>,
+    group: &Group<'a>,
+    depth: usize,
+    within: Within,
+    spot: Spot,
+    index: &mut [u16],
+    bytes: &mut [u8],
+) -> Result<Step, Refused>
+    requires { Ready scan.now group.now.around depth spot × (within.depth + depth ≤ 5) × (group.now.page ≡ scan.now.page) }
+    ensures { Meets 1 scan.now.m.now spot.at spot.row
+        (f_inst (page_of group.now.page) scan.now.watch (f_item (page_of group.now.page) scan.now.watch depth (inner_by group.now) within.depth within.count within.instance)
+        (list_of group.now) (ends_by group.now) (list_of group.now) spot.at spot.row (drop spot.at scan.now.m.now)) result index.old index.new bytes.old bytes.new }
+{
+    let mut tag = peek(scan.m, spot.at);
+    if !is_first(group.list, tag) {
+        return group.no_first(Head { tag, at: spot.at }, scan.watch);
+    }
+    let Some(below) = depth.checked_sub(1) else {
+        return Err(Refusal::Place.at(spot.at));
+    };
+    let mut spot = spot;
+    let mut place = 4;
+    let mut missing = None;
+    let mut watch = Watch::new(scan.watch);
+    loop {
+        watch = watch.seen(tag);
+        let step = item(scan, group.opened(), below, within, spot, index, bytes)?;
+        let Step::Done { at, row } = step else {
+            return Ok(step);
+        };
+        spot = Spot { at, row };
+        tag = peek(scan.m, at);
+        let sought = seek(group.page.book, group.list, place, tag, missing);
+        missing = sought.missing;
+        let Some(behind) = sought.place else {
+            return group.close(Head { tag, at }, watch, missing, row);
+        };
+        place = behind;
+    }
+}

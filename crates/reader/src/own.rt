@@ -1,0 +1,75 @@
+// The message's own list: "Fields of the message's own list come in any order, each at most once".
+ghost use Rattle.std.specs.Prelude.{◌≡◌, ◌≤◌, ℕ, List, [], length, drop};
+ghost use Rattle.book.specs.Records.{members_of, records};
+ghost use Rattle.message.specs.Permitted.{none, lacking};
+ghost use Rattle.reader.specs.Filling.{f_ending, f_items};
+ghost use Rattle.reader.specs.Marked.{Marked};
+ghost use Rattle.reader.specs.Met.{page_of, Begun, Spare, Says, Meets};
+
+use crate::closing::{Head, Watch, refuse};
+use crate::fields::peek;
+use crate::items::item;
+use crate::marks::Marks;
+use crate::refusal::{Refusal, Refused};
+use crate::{Open, Scan, Spot, Step, Within};
+
+// No group is open.
+#[tactic(auto, unfolding(book::specs::Records::members_of))]
+fn no_group<'a>(_scan: &Scan<'a>) -> Open<'a>
+    ensures { Spare result }
+{
+    [&[], &[], &[], &[]]
+}
+
+// At the end: a required member of the message that is missing.
+fn ending(scan: &Scan, marks: &Marks, spot: Spot) -> Result<Step, Refused>
+    ensures { (seen : List ℕ) → Marked marks.now.bits (members_of scan.now.page.own.now) seen
+        → Says [] spot.at spot.row (f_ending (page_of scan.now.page) scan.now.watch (lacking (records scan.now.page.book.now) none (members_of scan.now.page.own.now) seen) spot.at) result }
+{
+    match marks.lacking(scan.page.book, scan.page.own) {
+        Some(tag) => Err(Refusal::Missing(tag).at(spot.at)),
+        None => Ok(Step::Done {
+            at: spot.at,
+            row: spot.row,
+        }),
+    }
+}
+
+pub(crate) fn own<'a>(
+    scan: &Scan<'a>,
+    spot: Spot,
+    index: &mut [u16],
+    bytes: &mut [u8],
+) -> Result<Step, Refused>
+    requires { Begun scan.now spot }
+    ensures { Meets 0 scan.now.m.now spot.at spot.row (f_items (page_of scan.now.page) scan.now.watch spot.at spot.row (drop spot.at scan.now.m.now))
+        result index.old index.new bytes.old bytes.new }
+{
+    let mut marks = Marks::none();
+    let mut spot = spot;
+    while spot.at < scan.m.len() {
+        let tag = peek(scan.m, spot.at);
+        if !scan.page.begins(scan.page.own, tag) {
+            let head = Head { tag, at: spot.at };
+            return refuse(&scan.page, &[], head, Watch::new(scan.watch));
+        }
+        if marks.has(scan.page.own, tag) {
+            return Err(Refusal::Twice.at(spot.at));
+        }
+        let step = item(
+            scan,
+            no_group(scan),
+            4,
+            Within::message(),
+            spot,
+            index,
+            bytes,
+        )?;
+        let Step::Done { at, row } = step else {
+            return Ok(step);
+        };
+        marks.mark(scan.page.own, tag);
+        spot = Spot { at, row };
+    }
+    ending(scan, &marks, spot)
+}
