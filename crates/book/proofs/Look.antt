@@ -1,26 +1,24 @@
 -- Laws of looking for a record. Assumes nothing.
 use mathlib.Core.Path.{◌≡◌, refl, sym, ap, ◌∙◌}
-use mathlib.Core.Bool.{Bool, true, false, cond}
+use mathlib.Core.Bool.{Bool, true, false, cond, ◌&&◌, not}
 use mathlib.Core.List.{List, [], ◌∷◌}
-use Prim.Native.Nat.{ℕ, zero, suc, ◌+◌, ◌-◌, ◌≤◌}
+use Prim.Native.Nat.{ℕ, zero, suc, ◌+◌, ◌-◌, ◌≤◌, ◌<◌}
 use native.Mathlib.Omega.{arith}
-use lib.ListN.{length, take, drop}
+use lib.ListN.{length, take, drop, length-drop}
 use lib.Seq.{drop-drop}
-use borrow.Author.Tests.{ne_eqb}
-use lib.Dec.{eqb}
+use borrow.Author.Tests.{eq-eqb, ne_eqb, eqb-true, eqb-false, le-leb, lt-leb, not-true}
+use lib.Dec.{eqb, leb}
 use Rattle.std.specs.Prelude.{Option, Some, None}
 use Rattle.std.specs.Option.{option_map}
 use Rattle.std.specs.List.{find}
+use Rattle.numbers.specs.Bytes.{le16}
 use Rattle.numbers.proofs.Parts.{rest}
-use Rattle.book.specs.Records.{size, walk_from, walk, Record, record_at, records, LookUp, nothing, found, look_up}
+use Rattle.numbers.proofs.Tests.{and_left, and_right}
+use Rattle.book.specs.Records.{size, walk_from, walk, Record, record_at, records, LookUp, nothing, found, look_up, is_message, kind_of}
 use Rattle.book.specs.declared.records.Record as Code
-use Rattle.book.specs.Walked.{record_in}
+use Rattle.book.specs.Walked.{record_in, records_at}
 use Rattle.book.specs.Answers.{look_of, found_in}
-use Rattle.book.proofs.Walk.{walk_law, size_fits}
-
--- the records from an offset on
-abbrev pub records_at : ℕ → List ℕ → List Record
-records_at at s = walk (λ at. []) (λ at r rs. record_at at r ∷ rs) at s
+use Rattle.book.proofs.Walk.{walk_law, size_fits, whole}
 
 pub next_fits : (s : List ℕ) (n : ℕ) → size s ≡ n → n ≤ length s
 next_fits s n e = omega (arith, e, size_fits s)
@@ -33,6 +31,80 @@ module _ (at : ℕ) (s : List ℕ) where
   next_record n e h =
       walk_law (λ at. []) (λ at r rs. record_at at r ∷ rs) at s
       ∙ rw (e, ne_eqb n 0 (λ z. omega (arith, z, h)), rest s n)
+
+-- a record takes ten bytes
+ten_length : (s : List ℕ) → size s ≡ 10 → le16 s ≡ 8
+ten_length s e = let w = whole s (λ z. omega (arith, z, e)) in omega (arith, e, w.is)
+
+length_ten : (s : List ℕ) → 10 ≤ length s → le16 s ≡ 8 → size s ≡ 10
+unfolding size
+length_ten s h e = rw (e, le-leb 2 (length s) (omega (arith, h)), le-leb 10 (length s) h)
+
+pub too_short : (s : List ℕ) → length s < 10 → leb 10 (length s) ≡ eqb (size s) 10
+too_short s h = rw (lt-leb 10 (length s) h, ne_eqb (size s) 10 (λ z. omega (arith, z, h, size_fits s)))
+
+pub takes_ten : (s : List ℕ) → 10 ≤ length s → eqb (le16 s) 8 ≡ eqb (size s) 10
+takes_ten s h = go (eqb (le16 s) 8) refl
+  where
+    go : (t : Bool) → eqb (le16 s) 8 ≡ t → t ≡ eqb (size s) 10
+    go true e = sym (eq-eqb (size s) 10 (length_ten s h (eqb-true (le16 s) 8 e)))
+    go false e = sym (ne_eqb (size s) 10 (λ z. eqb-false (le16 s) 8 e (ten_length s z)))
+
+-- such a record is no message
+short_kind : (k : ℕ) → eqb (kind_of 8 k) 2 ≡ false
+unfolding kind_of
+short_kind k = go (eqb k 1) (eqb k 2) (eqb k 3)
+  where
+    go : (a b c : Bool) → eqb (cond (a && true) 1 (cond (b && true && false) 2 (cond (c && true && true) 3 0))) 2 ≡ false
+    go true b c = refl
+    go false true true = refl
+    go false true false = refl
+    go false false true = refl
+    go false false false = refl
+
+no_message : (x : List ℕ) (at : ℕ) (s : List ℕ) → size s ≡ 10 → is_message x (record_at at s) ≡ false
+unfolding record_at
+no_message x at s e = rw (ten_length s e, short_kind (le16 (drop 2 s))) refl
+
+-- it is passed where the test does not hold
+passed : (p : Record → Bool) (at : ℕ) (s : List ℕ) → size s ≡ 10 → p (record_at at s) ≡ false
+    → look_up p (records_at at s) ≡ look_up p (records_at (at + 10) (take (length s - 10) (drop 10 s)))
+unfolding look_up
+passed p at s e q = rw (next_record at s 10 e (omega arith), q)
+
+-- the part of a book from a place on: of a kind and tag the same is found there as in all of the book, and the same messages are
+pub record Passed (p : Record → Bool) (b : List ℕ) (at : ℕ) (s : List ℕ) : Type 0 where
+  pub inside : at + length s ≡ length b
+  pub part : s ≡ drop at b
+  pub same : look_up p (records_at at s) ≡ look_up p (records b)
+  pub messages : (x : List ℕ) → look_up (is_message x) (records_at at s) ≡ look_up (is_message x) (records b)
+
+module _ (p : Record → Bool) (b : List ℕ) where
+  pub passed_none : Passed p b 0 b
+  unfolding records
+  passed_none = record { inside = omega arith; part = refl; same = refl; messages = λ x. refl }
+
+  passed_more : (at : ℕ) (s : List ℕ) → Passed p b at s → (eqb (size s) 10 && not (p (record_at at s))) ≡ true → Passed p b (at + 10) (take (length s - 10) (drop 10 s))
+  passed_more at s known q =
+      let ten = eqb-true (size s) 10 (and_left (eqb (size s) 10) (not (p (record_at at s))) q) in
+      let other = not-true (p (record_at at s)) (and_right (eqb (size s) 10) (not (p (record_at at s))) q) in
+      record {
+        inside = rw (rest s 10, length-drop) (omega (arith, known.inside, next_fits s 10 ten));
+        part = rest s 10 ∙ rw known.part (rw drop-drop refl);
+        same = sym (passed p at s ten other) ∙ known.same;
+        messages = λ x. sym (passed (is_message x) at s ten (no_message x at s ten)) ∙ known.messages x;
+      }
+
+  -- two records
+  pub passed_two : (at : ℕ) (s : List ℕ) → Passed p b at s → (eqb (size s) 10 && not (p (record_at at s))) ≡ true
+      → (eqb (size (take (length s - 10) (drop 10 s))) 10 && not (p (record_at (at + 10) (take (length s - 10) (drop 10 s))))) ≡ true
+      → Passed p b (at + 20) (take (length s - 20) (drop 20 s))
+  passed_two at s known q q' =
+      let two = passed_more (at + 10) (take (length s - 10) (drop 10 s)) (passed_more at s known q) q' in
+      let e : at + 10 + 10 ≡ at + 20 = omega arith in
+      let f : take (length (take (length s - 10) (drop 10 s)) - 10) (drop 10 (take (length s - 10) (drop 10 s))) ≡ take (length s - 20) (drop 20 s) =
+      rw (rest s 10, rest (drop 10 s) 10, drop-drop, rest s 20) refl in
+      rw (e, f) at two
 
 -- what `find` answers
 pub found_is : (p : Record → Bool) (B : List Record) (r : Option Code.Record) → option_map record_in r ≡ find p B → look_of r ≡ look_up p B

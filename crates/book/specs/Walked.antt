@@ -19,6 +19,10 @@ kind_in (Some k) = kind_number k
 abbrev pub record_in : Code.Record → Record
 record_in r = record_at r.offset r.bytes.now
 
+-- the records from an offset on, of the bytes from there on
+abbrev pub records_at : ℕ → List ℕ → List Record
+records_at at s = walk (λ at. []) (λ at r rs. record_at at r ∷ rs) at s
+
 -- the records that are still to come
 abbrev pub records_left : Records → List Record
 records_left s = walk (λ at. []) (λ at r rs. record_at at r ∷ rs) s.at s.rest.now

@@ -12,10 +12,12 @@ use crate::scan::Records;
 use forms::Datatype;
 
 // The first record of that kind and tag.
+// kept: inlined, since the check's stack has no room for its answer at every level of groups.
+#[inline]
 pub(crate) fn find_of<'a>(book: &'a [u8], kind: Kind, tag: u16) -> Option<Record<'a>>
     ensures { look_of result ≡ look_up (is_kind (kind_number kind) tag) (records book.now) }
 {
-    Records::of(book).find(|r| r.is_tagged(kind, tag))
+    Records::past_others(book, kind, tag).find(|r| r.is_tagged(kind, tag))
 }
 
 // The same of a kind's number, 0 for a record of no kind.
@@ -41,12 +43,12 @@ fn is_message(r: Record, text: &[u8]) -> bool
     r.is(Kind::Message) && type_text(r.text()) == text
 }
 
-// The first message of that type text.
+// The first message of that type text. No record that takes ten bytes is a message, so the tag to stop at is any.
 pub fn find_message<'a>(book: &'a [u8], text: &[u8]) -> Option<Record<'a>>
     ensures found { look_of result ≡ look_up (is_message text.now) (records book.now) }
     ensures place { found_in book.now result ≡ look_up (is_message text.now) (records book.now) }
 {
-    Records::of(book).find(|r| is_message(*r, text))
+    Records::past_others(book, Kind::Message, 0).find(|r| is_message(*r, text))
 }
 
 #[tactic(auto, unfolding(crate::specs::Records::type_of, crate::specs::Records::partner))]

@@ -1,8 +1,8 @@
 // The records of a book, and what each of them holds.
-ghost use Rattle.std.specs.Prelude.{◌≡◌, ◌≤◌, ℕ, MatchOption, eqb, drop};
+ghost use Rattle.std.specs.Prelude.{◌≡◌, ◌≤◌, ℕ, ◌&&◌, not, List, MatchOption, eqb, length, drop};
 ghost use Rattle.numbers.specs.Bytes.{le16};
-ghost use Rattle.book.specs.Records.{size, stop, kind_of, member_bytes, members_of, is_kind};
-ghost use Rattle.book.specs.Walked.{kind_number, kind_in, record_in};
+ghost use Rattle.book.specs.Records.{size, stop, kind_of, member_bytes, members_of, records, is_kind, is_message, look_up};
+ghost use Rattle.book.specs.Walked.{kind_number, kind_in, record_in, records_at};
 
 use crate::Declared;
 use numbers::{part, u16_at};
@@ -43,6 +43,15 @@ pub fn record_size(s: &[u8]) -> Option<usize>
         return Some(2 + n);
     }
     None
+}
+
+// Whether the record at the head takes ten bytes.
+// kept: record_size says it too; this way it is one comparison where the bytes are known to be there.
+#[tactic(auto, using(crate::proofs::Look::takes_ten, crate::proofs::Look::too_short))]
+fn takes_ten(s: &[u8]) -> bool
+    ensures { result ≡ eqb (size s.now) 10 }
+{
+    10 <= s.len() && u16_at(s, 0) == 8
 }
 
 #[tactic(auto, unfolding(crate::specs::Records::kind_of))]
@@ -106,6 +115,13 @@ impl<'a> Record<'a> {
         self.tag() == tag && self.is(kind)
     }
 
+    // Whether it takes ten bytes, as a field does, and is not of that kind and tag.
+    pub(crate) fn is_other(self, kind: Kind, tag: u16) -> bool
+        ensures { result ≡ (eqb (size self.entry.bytes.now) 10 && not (is_kind (kind_number kind) tag (record_in self.entry))) }
+    {
+        takes_ten(self.bytes) && !self.is_tagged(kind, tag)
+    }
+
     pub(crate) fn declares(self) -> Declared
         ensures { (result.datatype ≡ (record_in self.entry).type) × (result.partner ≡ (record_in self.entry).partner) }
     {
@@ -127,6 +143,35 @@ impl<'a> Record<'a> {
     {
         record_members(self.bytes)
     }
+}
+
+// An offset up to which a book has only records that take ten bytes, as fields do, and are not of that kind and tag.
+// kept: next steps over them too; but most of a book is such, and here a step has no size to work out, and two have one test of the end.
+// It is not inlined, since the check's stack has no room for that.
+#[inline(never)]
+pub(crate) fn past_others(book: &[u8], kind: Kind, tag: u16) -> usize
+    ensures inside { result ≤ length book.now }
+    ensures same { look_up (is_kind (kind_number kind) tag) (records_at result (drop result book.now)) ≡ look_up (is_kind (kind_number kind) tag) (records book.now) }
+    ensures messages { (text : List ℕ) → look_up (is_message text) (records_at result (drop result book.now)) ≡ look_up (is_message text) (records book.now) }
+{
+    let mut at = 0;
+    let mut rest = book;
+    while 20 <= rest.len()
+        && (Record {
+            offset: at,
+            bytes: rest,
+        })
+        .is_other(kind, tag)
+        && (Record {
+            offset: at + 10,
+            bytes: &rest[10..],
+        })
+        .is_other(kind, tag)
+    {
+        at += 20;
+        rest = &rest[20..];
+    }
+    at
 }
 
 // Rule 1: the offset at which no record can be taken.

@@ -20,14 +20,14 @@ use Rattle.message.specs.Rows.{Row, width, rows_of}
 use Rattle.reader.specs.Items.{Out, done, bad, late, read_items}
 use Rattle.reader.specs.Frame.{Framed, framed, misframed, frame}
 use Rattle.reader.specs.Reading.{Answer, gives, refused, on_answer, items_in, in_frame, arrangement_of, room_for, looked, read_checked, read, index_after}
+use Rattle.reader.proofs.FillLaws.{arrangement_is, arrangement_long, checked_is, read_sound, read_unsound}
 use Rattle.bridge.specs.Unsound.{StandsIn, Unsound, over, torn, rule}
 use Rattle.bridge.specs.Refused.{Due, nothing, behind, put_due, Reaches, tags_onto, GroupLacks, OwnLacks, Lacks, Refusal, long, start, size, end, type, field, NoRoom, Missing, Complete, Part}
 use Rattle.bridge.proofs.Sees.{put_size, field_size_lem}
 use Rattle.bridge.proofs.Sound.{check_is}
 use Rattle.bridge.proofs.Framing.{Fits, frame_true}
 use Rattle.bridge.proofs.Places.{eight, nine}
-use Rattle.bridge.proofs.Whole.{arrangement_is, arrangement_long}
-use Rattle.bridge.proofs.Demand3.{checked_is, read_sound, read_unsound, verdict_sound}
+use Rattle.bridge.proofs.Demand3.{verdict_sound}
 use Rattle.bridge.proofs.Breaking.{Bad, Far, items_far}
 use Rattle.bridge.proofs.MissingMember.{own_missing, group_missing}
 use Rattle.bridge.proofs.Verdicts.{records_stand, and_then_broken, rules_broken, filled_broken, filled_whole, every_in}

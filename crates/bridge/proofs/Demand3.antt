@@ -18,6 +18,7 @@ use Rattle.message.specs.Written.{put_field, written}
 use Rattle.message.specs.Permitted.{permitted}
 use Rattle.message.specs.Rows.{Row, width, row_of, rows_of}
 use Rattle.reader.specs.Reading.{Answer, gives, refused, on_answer, arrangement_of, room_for, looked, read_checked, read}
+use Rattle.reader.proofs.FillLaws.{checked_is, read_sound, read_unsound}
 use Rattle.bridge.specs.FieldList.{field_of, fields_of, field_at}
 use Rattle.bridge.proofs.Sound.{sound_rules}
 use Rattle.bridge.proofs.Whole.{no_answer, arrangement_true, in_frame_back, arrangement_back}
@@ -55,10 +56,6 @@ pub record Reads (book s : List ℕ) (q : List Row) : Type 0 where
   pub bytes : written which ≡ s
   pub short : length s ≤ 8192
   pub stated : rows_of which ≡ q
-
-pub checked_is : (book s : List ℕ) (room : ℕ) → read_checked book s room ≡ on_answer (arrangement_of (looked book) s) (λ A. room_for s room (rows_of A))
-unfolding read_checked
-checked_is book s room = refl
 
 on_answer_lem : {X Y : Type 0} (a : Answer X) (f : X → Answer Y) (y : Y) → on_answer a f ≡ gives y → (x : X) × (a ≡ gives x) × (f x ≡ gives y)
 unfolding on_answer
@@ -107,15 +104,6 @@ pub roomy_exactly : (book : List ℕ) → check book ≡ sound → (s : List ℕ
     → (read_checked book s room ≡ gives q) ↔ Reads book s q
 roomy_exactly book good s room n q =
     ((λ e. (reads_of book s room q e).0), (λ h. let m = four_each book s q h in of_reads book s good room q h (omega (arith, h.short))))
-
--- Reading that checks the book accepts nothing under one that is not sound.
-pub read_sound : (book s : List ℕ) (room : ℕ) → is_sound (check book) ≡ true → read book s room ≡ read_checked book s room
-unfolding read
-read_sound book s room e = rw (e, read)
-
-pub read_unsound : (book s : List ℕ) (room : ℕ) → is_sound (check book) ≡ false → read book s room ≡ refused 1 0 0
-unfolding read
-read_unsound book s room e = rw (e, read)
 
 pub verdict_sound : (v : Verdict) → is_sound v ≡ true → v ≡ sound
 unfolding is_sound

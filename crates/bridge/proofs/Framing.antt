@@ -17,7 +17,7 @@ use Rattle.message.specs.Written.{header, type_field, trailer}
 use Rattle.message.specs.Permitted.{versions, among}
 use Rattle.reader.specs.Fields.{Cut, uncut, cut_at}
 use Rattle.reader.specs.Frame.{framed, misframed, field, listed_as, type_of, sum_of, count_of, version_of, frame}
-use Rattle.bridge.proofs.Decimal.{digits_free}
+use Rattle.numbers.proofs.Shortest.{digits_free}
 use Rattle.bridge.proofs.Sees.{cut_true, cut_back}
 
 pub field_true : (p s v r : List ℕ) → field p s ≡ cut_at v r → (s ≡ p ++ (v ++ (1 ∷ r))) × (free 1 v ≡ true)

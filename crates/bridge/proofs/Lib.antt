@@ -1,5 +1,4 @@
 pub mod Lists
-pub mod Decimal
 pub mod Sees
 pub mod Accepted
 pub mod Readback
@@ -15,3 +14,4 @@ pub mod MissingMember
 pub mod Verdicts
 pub mod Pairs
 pub mod Demand1
+pub mod Tied

@@ -18,7 +18,7 @@ use Rattle.message.specs.Written.{put_field, put}
 use Rattle.message.specs.Permitted.{is_tag, good_value, good}
 use Rattle.message.specs.Rows.{lead, field_size, piece_size}
 use Rattle.reader.specs.Fields.{Cut, uncut, cut_at, grow, cut, tag_in, peek, got, fault, ended, data_of, valued, tagged, grab}
-use Rattle.bridge.proofs.Decimal.{value_render, form_render, render_of, form_free, form_pos}
+use Rattle.numbers.proofs.Shortest.{value_render, form_render, render_of, form_free, form_pos}
 
 lost : {A : Type 0} (n : ℕ) (s r : List ℕ) (k : Piece) → fault n s ≡ got k r → A
 lost n s r k e = let z : ◌≡◌ {A = ℕ} 0 1 = cc in absurd (omega arith)

@@ -16,7 +16,7 @@ use Rattle.message.specs.Written.{written}
 use Rattle.message.specs.Permitted.{good, spare, in_order, instance, instances, fits_node, fits, has_tag, any_order, permitted}
 use Rattle.message.specs.Rows.{lead, rows_of}
 use Rattle.bridge.specs.FieldList.{Field, field_of, piece_fields, fields_all, fields_node, fields_item, fields_of, put_fields}
-use Rattle.bridge.proofs.Decimal.{render_some}
+use Rattle.numbers.proofs.Shortest.{render_some}
 use Rattle.bridge.proofs.Sees.{field_size_lem, single_parts, pair_parts}
 use Rattle.bridge.proofs.Accepted.{count_parts, leaf_good, items_are}
 use Rattle.bridge.proofs.Framing.{version_long}

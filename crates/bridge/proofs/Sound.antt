@@ -95,11 +95,17 @@ filled_short s e = go (rule1 s) refl
     go true p = unsound _ _ (rw p at e)
     go false p = ltb-false 16384 (length s) (or_left (ltb 16384 (length s)) _ p)
 
--- a sound book is looked at whole, and keeps the rules
+-- a sound book is looked at whole
+pub sound_whole : (book : List ℕ) → check book ≡ sound → looked book ≡ records book
+sound_whole book e =
+    let h = and_then_sound (filled book) (rules_from 8 2 (records book)) (sym (check_is book) ∙ e) in
+    rw (take_all 16384 book (filled_short book h.0))
+
+-- and keeps the rules
 pub sound_rules : (book : List ℕ) → check book ≡ sound → Rules (looked book)
 sound_rules book e =
     let h = and_then_sound (filled book) (rules_from 8 2 (records book)) (sym (check_is book) ∙ e) in
-    rw (take_all 16384 book (filled_short book h.0)) (rules_sound (records book) h.1)
+    rw (sound_whole book e) (rules_sound (records book) h.1)
 
 -- rule 9: the tags of a list opened behind `seen` are new, stand once, and are seen then
 record Adds (seen s l : List ℕ) : Type 0 where

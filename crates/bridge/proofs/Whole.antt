@@ -16,6 +16,7 @@ use Rattle.message.specs.Permitted.{versions, among, good_items, good_frame, und
 use Rattle.reader.specs.Items.{Out, done, bad, late, read_items}
 use Rattle.reader.specs.Frame.{Framed, framed, misframed, frame}
 use Rattle.reader.specs.Reading.{gives, refused, items_in, in_frame, arrangement_of}
+use Rattle.reader.proofs.FillLaws.{arrangement_is, arrangement_long}
 use Rattle.bridge.proofs.Accepted.{items_true}
 use Rattle.bridge.proofs.Readback.{items_back}
 use Rattle.bridge.proofs.Sound.{Rules, page_sound}
@@ -82,15 +83,6 @@ permitted_of B A h =
     let F = h.frame in
     let L = F.type in
     permitted_is B A ∙ rw (frame_good A, F.version, F.count, F.sum, L.text, L.found) (under_found B A.items L.entry h.page L.page h.items)
-
--- the reading, of a message that is not too long
-pub arrangement_is : (B : List Record) (s : List ℕ) → ltb 8192 (length s) ≡ false → arrangement_of B s ≡ in_frame s (frame B s)
-unfolding arrangement_of
-arrangement_is B s e = rw (e, arrangement_of)
-
-pub arrangement_long : (B : List Record) (s : List ℕ) → ltb 8192 (length s) ≡ true → arrangement_of B s ≡ refused 2 0 0
-unfolding arrangement_of
-arrangement_long B s e = rw (e, arrangement_of)
 
 pub no_answer : {X A : Type 0} (n p t : ℕ) (x : X) → refused n p t ≡ gives x → A
 no_answer n p t x e = let z : ◌≡◌ {A = ℕ} 0 1 = cc in absurd (omega arith)

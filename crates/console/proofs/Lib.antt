@@ -1,3 +1,4 @@
--- Laws of the lines and of the input, over plain lists.
+-- Laws of the lines, of the input and of an answer's text, over plain lists.
 pub mod Lines
 pub mod Inputs
+pub mod Answered

@@ -6,7 +6,7 @@ use Prim.Native.Nat.{ℕ, ◌+◌, ◌-◌, ◌*◌, ◌/◌, ◌≤◌, ◌<◌
 use native.Mathlib.Omega.{arith}
 use borrow.Author.Tests.{leb-true, lt-ltb, le-ltb, le-leb, lt-leb}
 use lib.Dec.{leb, ltb}
-use lib.ListN.{length, length-append, length-take, length-drop, take, drop}
+use lib.ListN.{length, length-take, length-drop, take, drop}
 use Rattle.std.specs.Prelude.{Result, Ok, Err}
 use Rattle.std.specs.Result.{is_err}
 use Rattle.book.specs.Check.{Verdict, check, is_sound}
@@ -19,13 +19,13 @@ use Rattle.reader.specs.declared.Framed as Code
 use Rattle.reader.specs.declared.refusal.Refused.{Refused}
 use Rattle.reader.specs.Refusals.{number, tag_of}
 use Rattle.reader.specs.Items.{Out, done, bad, late, read_items}
-use Rattle.reader.specs.Frame.{Framed, framed, misframed, frame}
+use Rattle.reader.specs.Frame.{misframed, frame}
 use Rattle.reader.specs.Reading.{Answer, gives, refused, on_answer, items_in, in_frame, arrangement_of, looked, room_for, read_checked, read, told, index_after}
 use Rattle.reader.specs.Filling.{put_rows, row_numbers, row_bytes}
 use Rattle.reader.specs.Met.{Meets}
 use Rattle.reader.specs.declared.Step.{Step}
 use Rattle.reader.specs.Answers.{value_in, framed_in, told_by, Ends}
-use Rattle.reader.specs.Rowed.{own_row, version_of, length_of, kind_of, head_rows, closing_row, item_rows, past, all_rows, Faults, Counts, put_by, f_message}
+use Rattle.reader.specs.Rowed.{item_rows, past, all_rows, Counts, put_by, f_message}
 use Rattle.reader.proofs.RowLaws.{flat_by, flat_length, rows_sets}
 use lib.Seq.{sets-eq}
 use Rattle.reader.proofs.Framing.{place_is, drop_take}

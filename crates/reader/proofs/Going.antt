@@ -1,18 +1,14 @@
 -- Laws of a reading that goes from place to place and puts its rows one behind the other. Assumes nothing.
-use mathlib.Core.Path.{◌≡◌, refl, sym, ap, ◌∙◌, fun_ext}
+use mathlib.Core.Path.{◌≡◌, refl, sym, ◌∙◌}
 use mathlib.Core.Bool.{Bool, true, false, cond, ◌||◌}
 use mathlib.Core.List.{List, [], ◌∷◌, ◌++◌, append_assoc, append-nil}
-use Prim.Native.Nat.{ℕ, zero, suc, ◌+◌, ◌-◌, ◌≤◌, ◌<◌}
+use Prim.Native.Nat.{ℕ, ◌+◌, ◌≤◌, ◌<◌}
 use native.Mathlib.Omega.{arith}
-use lib.Dec.{eqb}
-use lib.ListN.{length, length-append, take, drop}
-use denote.Bor.{Bor}
+use lib.ListN.{length, length-append, drop}
 use Rattle.std.specs.Prelude.{Result, Ok, Err}
-use Rattle.std.specs.List.{list_any}
 use Rattle.book.proofs.Members.{members_count, members_none}
-use Rattle.book.specs.Records.{Member, members_of}
+use Rattle.book.specs.Records.{Member}
 use Rattle.message.specs.Arrangement.{Page}
-use Rattle.message.specs.Permitted.{Miss, note}
 use Rattle.message.specs.Rows.{Row}
 use Rattle.reader.specs.declared.Step.{Step}
 use Rattle.reader.specs.declared.Step.TheVariants.{Done, Ask}
@@ -21,7 +17,7 @@ use Rattle.reader.specs.declared.refusal.Refused.{Refused}
 use Rattle.reader.specs.declared.refusal.Refusal.TheVariants.{Instances}
 use Rattle.reader.specs.Fields.{peek}
 use Rattle.reader.specs.Items.{is_first, starts}
-use Rattle.reader.specs.Filling.{Fill, full, poor, ask, before, next, f_refuse, f_close, f_members, f_inst, f_insts, f_closed, Seek, passed, met, seek_in, put_rows, row_numbers, row_bytes}
+use Rattle.reader.specs.Filling.{Fill, full, poor, ask, before, next, f_refuse, f_inst, f_closed, put_rows, row_numbers, row_bytes}
 use Rattle.reader.specs.Met.{page_of, ends_by, list_of, Says, Meets}
 use Rattle.reader.proofs.RowLaws.{rows_then}
 

@@ -1,7 +1,7 @@
 -- Laws of the group reader and the instance reader, a step at a time. Assumes nothing.
 use mathlib.Core.Path.{◌≡◌, refl, sym, ap, ◌∙◌, fun_ext}
 use mathlib.Core.Bool.{Bool, true, false, cond, ◌||◌}
-use mathlib.Core.List.{List, [], ◌∷◌, ◌++◌}
+use mathlib.Core.List.{List, [], ◌∷◌}
 use Prim.Native.Nat.{ℕ, zero, suc, ◌+◌, ◌-◌, ◌≤◌, ◌<◌, min}
 use native.Mathlib.Omega.{arith}
 use native.Mathlib.Numerals.{add-one}
@@ -17,8 +17,8 @@ use Rattle.numbers.specs.Decimal.{value}
 use Rattle.book.specs.Records.{Record, Member, members_of, group_of, is_count, is_bounded}
 use Rattle.book.proofs.Members.{member_of, members_cons, members_count}
 use Rattle.message.specs.Arrangement.{single, pair, Page}
-use Rattle.message.specs.Permitted.{has_tag, Miss, none, lacks, note}
-use Rattle.message.specs.Rows.{Row, lead, field_size, row_of}
+use Rattle.message.specs.Permitted.{has_tag, Miss, none, note}
+use Rattle.message.specs.Rows.{field_size, row_of}
 use Rattle.reader.specs.declared.Step.{Step}
 use Rattle.reader.specs.declared.Field.{Field}
 use Rattle.reader.specs.declared.Grabbed.{Grabbed}
@@ -269,6 +269,11 @@ module _ (P : Page) (w d : ℕ) (out : ℕ → Bool) (v : Within) (m : List ℕ)
       rw (item_single P w d out v m at k f st e c) (refl, refl, omega (arith, st.inside), omega (arith, st.past, st.some), omega (arith, st.past, st.some), refl, refl)
   item_plain (Pair l r) (e, (st, su)) n =
       rw (item_pair P w d out v m at k l r st su e) (refl, refl, omega (arith, su.inside), omega (arith, st.past, st.some, su.past, su.some), omega (arith, st.past, st.some, su.past, su.some), refl, refl)
+
+  pub item_plain_at : (t : Grabbed) → Takes P.book m at (grab P.book (drop at m)) (Ok t) → count_in t ≡ None → (p : Spot) → p ≡ record { at = grab_end t; row = k + length (grab_rows v t) }
+      → (j u : List ℕ) → j ≡ put_rows 6 row_numbers i k (grab_rows v t) → u ≡ put_rows 12 row_bytes b k (grab_rows v t)
+      → Meets 1 m at k (Whole P w d out v m at k) (Ok (Done p.at p.row)) i j b u
+  item_plain_at t T n p e j u ej eu = rw (e, ej, eu) (item_plain t T n)
 
 -- what was taken off fits
 pub taken_short : (B : List Record) (m : List ℕ) (at : ℕ) (t : Grabbed) (g : Grab) → Takes B m at g (Ok t) → length m ≤ 8192 → AllShort t

@@ -13,3 +13,4 @@ pub mod OwnLaws
 pub mod StageLaws
 pub mod ReadLaws
 pub mod FillLaws
+pub mod Told

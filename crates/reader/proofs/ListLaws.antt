@@ -4,7 +4,8 @@ use mathlib.Core.Bool.{Bool, true, false, cond, ◌||◌, and-false}
 use mathlib.Core.List.{List, [], ◌∷◌}
 use Prim.Native.Nat.{ℕ, zero, suc, ◌+◌, ◌-◌, ◌≤◌, ◌<◌}
 use native.Mathlib.Omega.{arith}
-use borrow.Author.Tests.{eq-eqb, ne_eqb}
+use borrow.Author.Tests.{eqb-true, eq-eqb, ne_eqb}
+use Rattle.numbers.specs.Bytes.{le16}
 use lib.Dec.{eqb}
 use Rattle.std.proofs.Common.{⊎_elim}
 use Rattle.std.proofs.lemmas.Bool.{cases_lt}
@@ -38,6 +39,18 @@ tag_small at s h =
     let a = small_drop s 4 h 0 in
     let b = small_drop s 4 h 1 in
     omega (arith, a, b)
+
+pub listed_low : (t : ℕ) (l : List ℕ) → Small l → has_tag t (members_of l) ≡ true → t < 65536
+unfolding has_tag members_of
+listed_low t [] h e = let z : false ≡ true = e in absurd (let y : ◌≡◌ {A = ℕ} 0 1 = cc in omega arith)
+listed_low t (a ∷ []) h e = absurd (let y : ◌≡◌ {A = ℕ} 0 1 = cc in omega arith)
+listed_low t (a ∷ b ∷ []) h e = absurd (let y : ◌≡◌ {A = ℕ} 0 1 = cc in omega arith)
+listed_low t (a ∷ b ∷ c ∷ []) h e = absurd (let y : ◌≡◌ {A = ℕ} 0 1 = cc in omega arith)
+listed_low t (a ∷ b ∷ c ∷ d ∷ s) h e = go (eqb t (le16 (a ∷ b ∷ []))) refl e (listed_low t s (small_drop (a ∷ b ∷ c ∷ d ∷ s) 4 h))
+  where
+    go : (x : Bool) → eqb t (le16 (a ∷ b ∷ [])) ≡ x → (eqb t (le16 (a ∷ b ∷ [])) || has_tag t (members_of s)) ≡ true → (has_tag t (members_of s) ≡ true → t < 65536) → t < 65536
+    go true q e ih = let k = eqb-true t (le16 (a ∷ b ∷ [])) q in omega (arith, k, h 0, h 1)
+    go false q e ih = ih (rw q at e)
 
 none_large : (t f at : ℕ) (s : List ℕ) → 65535 < t → Small s → look_up (is_kind 1 t) (walk_from (λ at. []) (λ at r rs. record_at at r ∷ rs) f at s) ≡ nothing
 unfolding walk_from look_up

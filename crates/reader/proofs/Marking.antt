@@ -17,9 +17,8 @@ use Rattle.numbers.specs.Bytes.{mem}
 use Rattle.numbers.specs.Bits.{bit_at, marked}
 use Rattle.numbers.proofs.Marks.{Marks, marks_none, marks_more, marked_length}
 use Rattle.book.specs.declared.list.Member as Code
-use Rattle.book.specs.Records.{Record, Member, members_of}
+use Rattle.book.specs.Records.{Record, Member}
 use Rattle.book.specs.Lists.{member_in}
-use Rattle.book.proofs.Members.{members_count}
 use Rattle.message.specs.Permitted.{has_tag, spare, Miss, none, lacks, note, lacking}
 use Rattle.reader.specs.Met.{miss_of}
 use Rattle.reader.specs.Marked.{tag_at, Marked}

@@ -1,18 +1,18 @@
 -- Laws of the whole reading: what was counted and put down, against the answer. Assumes nothing.
-use mathlib.Core.Path.{◌≡◌, refl, sym, ap, ◌∙◌}
+use mathlib.Core.Path.{◌≡◌, refl, ap, ◌∙◌}
 use mathlib.Core.Bool.{Bool, true, false, cond}
 use mathlib.Core.List.{List, [], ◌∷◌, ◌++◌}
-use Prim.Native.Nat.{ℕ, zero, suc, ◌+◌, ◌-◌, ◌*◌, ◌≤◌, ◌<◌}
+use Prim.Native.Nat.{ℕ, zero, suc, ◌+◌, ◌-◌, ◌≤◌}
 use native.Mathlib.Omega.{arith}
-use borrow.Author.Tests.{eqb-true, eq-eqb}
-use lib.Dec.{eqb, leb, ltb}
-use lib.ListN.{length, length-append, length-take, length-drop, take, drop}
+use borrow.Author.Tests.{eq-eqb}
+use lib.Dec.{eqb}
+use lib.ListN.{length, length-take, length-drop, take, drop}
 use Rattle.std.specs.Prelude.{Result, Ok, Err}
 use Rattle.numbers.specs.Bytes.{le16}
-use Rattle.book.specs.Records.{Record, member_bytes, record_at, size, walk_from, records, look_up, members_of, members_in, message_of, is_message, nothing, found}
+use Rattle.book.specs.Records.{Record, member_bytes, record_at, size, walk_from, records, look_up, members_in, message_of, is_message}
 use Rattle.book.proofs.Members.{members_count}
-use Rattle.message.specs.Arrangement.{Items, Page, Arrangement}
-use Rattle.message.specs.Rows.{Row, lead, field_size, row_of, past_all, past_item, rows_all, rows_item, rows_of}
+use Rattle.message.specs.Arrangement.{Items, Page}
+use Rattle.message.specs.Rows.{Row}
 use Rattle.reader.specs.declared.Step.{Step}
 use Rattle.reader.specs.declared.Step.TheVariants.{Done, Ask}
 use Rattle.reader.specs.declared.Framed as Code
@@ -20,14 +20,10 @@ use Rattle.reader.specs.declared.refusal.Refused.{Refused}
 use Rattle.reader.specs.Refusals.{number, tag_of}
 use Rattle.reader.specs.Fields.{peek}
 use Rattle.reader.specs.Items.{Out, done, bad, late, read_items}
-use Rattle.reader.specs.Frame.{Framed, framed, misframed, frame}
-use Rattle.reader.specs.Reading.{Answer, gives, refused, on_answer, items_in, in_frame, arrangement_of, looked, room_for, read_checked}
-use Rattle.reader.specs.Filling.{Fill, full, poor, ask, late_fill, before, next, f_items, put_rows, row_numbers, row_bytes}
-use Rattle.reader.specs.Answers.{value_in, framed_in, told_by}
+use Rattle.reader.specs.Filling.{Fill, full, poor, ask, late_fill, before, next, f_items}
 use Rattle.reader.specs.Met.{Refuses, Meets}
-use Rattle.reader.specs.Rowed.{version_of, length_of, kind_of, own_row, head_rows, closing_row, f_message, item_rows, past, all_rows, Faults, Counts}
+use Rattle.reader.specs.Rowed.{head_rows, closing_row, f_message, item_rows, past, all_rows, Counts}
 use Rattle.reader.proofs.ListLaws.{records_walk}
-use Rattle.reader.proofs.Framing.{place_is}
 use Rattle.reader.proofs.Filled.{items_same}
 
 -- a record of the book has no more members than the book has room for

@@ -1,22 +1,20 @@
 -- Laws of the rows of a whole message. Assumes nothing.
-use mathlib.Core.Path.{◌≡◌, refl, sym, ap, ◌∙◌}
+use mathlib.Core.Path.{◌≡◌, refl, ap, ◌∙◌}
 use mathlib.Core.List.{List, [], ◌∷◌, ◌++◌}
-use Prim.Native.Nat.{ℕ, suc, ◌+◌, ◌-◌, ◌≤◌, ◌<◌}
+use Prim.Native.Nat.{ℕ, ◌+◌, ◌≤◌}
 use native.Mathlib.Omega.{arith}
 use lib.ListN.{length, length-append, drop}
-use Rattle.std.specs.Prelude.{Result, Ok, Err}
+use Rattle.std.specs.Prelude.{Ok, Err}
 use Rattle.message.specs.Arrangement.{Page}
 use Rattle.message.specs.Rows.{Row}
-use Rattle.reader.specs.declared.Step.{Step}
 use Rattle.reader.specs.declared.Step.TheVariants.{Done, Ask}
 use Rattle.reader.specs.declared.Framed.{Framed}
-use Rattle.reader.specs.declared.Within.{Within}
 use Rattle.reader.specs.declared.refusal.Refused.{Refused}
 use Rattle.reader.specs.Filling.{Fill, full, before, next, f_items, put_row, put_rows, row_numbers, row_bytes}
-use Rattle.reader.specs.Met.{field_row, Says, Meets}
-use Rattle.reader.specs.Rowed.{version_of, length_of, kind_of, own_row, head_rows, closing_row, f_message}
+use Rattle.reader.specs.Met.{Meets}
+use Rattle.reader.specs.Rowed.{head_rows, closing_row, f_message}
 use Rattle.reader.proofs.RowLaws.{rows_one, rows_then}
-use Rattle.reader.proofs.Going.{Going, before_full, going_on, going_bad, going_ask}
+use Rattle.reader.proofs.Going.{Going, going_on, going_bad, going_ask}
 
 -- the rows of 8, 9 and 35 are put one behind the other
 pub heads_put : (size : ℕ) (numbers : Row → List ℕ) (i j o u : List ℕ) (p q r : Row) → j ≡ put_row size numbers i 0 p → o ≡ put_row size numbers j 1 q → u ≡ put_row size numbers o 2 r

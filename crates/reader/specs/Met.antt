@@ -1,10 +1,10 @@
 -- What the code's structs and enums say, in the definitions' words. Assumes nothing.
-use Rattle.std.specs.Prelude.{◌≡◌, Bool, false, cond, ◌||◌, ℕ, ◌+◌, ◌-◌, ◌≤◌, ◌<◌, List, [], ◌∷◌, eqb, length, drop, Option, Some, None, Result, Ok, IsErrAnd}
+use Rattle.std.specs.Prelude.{◌≡◌, Bool, cond, ◌||◌, ℕ, ◌+◌, ◌-◌, ◌≤◌, ◌<◌, List, [], ◌∷◌, eqb, length, take, drop, Option, Some, None, Result, Ok, Err, IsErrAnd}
 use Rattle.std.specs.List.{list_any}
 use denote.Bor.{Bor}
 use Rattle.std.specs.Option.{option_map_or}
 use Rattle.forms.specs.Numbered.{number_of}
-use Rattle.book.specs.Records.{Member, members_of, records}
+use Rattle.book.specs.Records.{Record, Member, members_of, records}
 use Rattle.message.specs.Arrangement.{Page}
 use Rattle.message.specs.Permitted.{Miss, none, lacks}
 use Rattle.message.specs.Rows.{Row}
@@ -17,6 +17,9 @@ use Rattle.reader.specs.declared.Grabbed.TheVariants.{Single, Pair}
 use Rattle.reader.specs.declared.Spot.{Spot}
 use Rattle.reader.specs.declared.Within.{Within}
 use Rattle.reader.specs.declared.Scan.{Scan}
+use Rattle.reader.specs.declared.items.Taken.{Taken}
+use Rattle.reader.specs.Fields.{grab}
+use Rattle.reader.specs.Taken.{Takes}
 use Rattle.reader.specs.declared.page.Page as Code
 use Rattle.reader.specs.declared.closing.Group.{Group}
 use Rattle.reader.specs.declared.refusal.Refused.{Refused}
@@ -47,6 +50,10 @@ ends_by g u = is_first (members_of g.list.now) u || outer_by g.page g.around u
 -- the members of its list
 abbrev pub list_of : Group → List Member
 list_of g = members_of g.list.now
+
+-- the groups that are open within it
+abbrev pub opened_of : Group → List (Bor (List ℕ))
+opened_of g = g.list ∷ take 3 g.around
 
 -- a field may begin with this tag in its list, or in one that is open around it
 abbrev pub inner_by : Group → ℕ → Bool
@@ -118,3 +125,14 @@ Meets least m at k (full q a r) x i j b d =
     × (d ≡ put_rows 12 row_bytes b k q)
 Meets least m at k (poor n t r) x i j b d = (p : ℕ) × Refuses n t p x × (r ≡ drop p m) × (p ≤ length m)
 Meets least m at k (ask t) x i j b d = x ≡ Ok (Ask t)
+
+-- what was taken off at a place and put down
+abbrev pub Took : List Record → List ℕ → Within → Spot → Result Taken Refused → List ℕ → List ℕ → List ℕ → List ℕ → Type 0
+Took B m w p (Ok t) i j b d =
+    (g : Grabbed)
+    × Takes B m p.at (grab B (drop p.at m)) (Ok g)
+    × (t.count ≡ count_in g)
+    × (t.next ≡ record { at = grab_end g; row = p.row + length (grab_rows w g) })
+    × (j ≡ put_rows 6 row_numbers i p.row (grab_rows w g))
+    × (d ≡ put_rows 12 row_bytes b p.row (grab_rows w g))
+Took B m w p (Err r) i j b d = Takes B m p.at (grab B (drop p.at m)) (Err r)

@@ -1,10 +1,10 @@
 // Where an instance or the message ends, or a tag leads no further.
-ghost use Rattle.std.specs.Prelude.{◌≡◌, Bool, false, cond, ◌||◌, List, [], ◌∷◌, ℕ, eqb, take};
+ghost use Rattle.std.specs.Prelude.{◌≡◌, Bool, false, cond, ◌||◌, List, [], ℕ, eqb};
 ghost use Rattle.book.specs.Records.{members_of};
 ghost use Rattle.reader.specs.Fields.{peek};
 ghost use Rattle.reader.specs.Items.{is_first, starts};
 ghost use Rattle.reader.specs.Filling.{Fill, full, poor, late_fill, f_refuse, f_close, f_inst, f_closed};
-ghost use Rattle.reader.specs.Met.{miss_of, page_of, ends_by, list_of, Says};
+ghost use Rattle.reader.specs.Met.{miss_of, page_of, ends_by, list_of, opened_of, Says};
 
 use crate::fields::TORN;
 use crate::lists::{has_tag, is_first};
@@ -155,7 +155,7 @@ impl<'a> Group<'a> {
 
     // The groups that are open within this one, innermost first.
     pub(crate) fn opened(&self) -> Open<'a>
-        ensures { result ≡ self.now.list ∷ take 3 self.now.around }
+        ensures { result ≡ opened_of self.now }
     {
         let [a, b, c, _] = self.around;
         [self.list, a, b, c]

@@ -1,15 +1,16 @@
 // The fields between 35 and 10: "an instance may hold a further group". Group reader and instance reader call each other, and at every call
 // the depth that is left and the bytes left together fall.
 ghost use Rattle.std.specs.Prelude.{◌≡◌, ◌+◌, ◌≤◌, ◌<◌, length, drop};
+ghost use Rattle.book.specs.Records.{records};
 ghost use Rattle.reader.specs.Filling.{put_row, put_rows, row_numbers, row_bytes, f_item, f_inst};
-ghost use Rattle.reader.specs.Met.{page_of, outer_by, inner_by, ends_by, list_of, count_in, grab_rows, grab_end, field_row, AllShort, Ready, Meets};
+ghost use Rattle.reader.specs.Met.{page_of, outer_by, inner_by, opened_of, ends_by, list_of, count_in, grab_rows, grab_end, field_row, AllShort, Ready, Took, Meets};
 
 use crate::closing::{Group, Head, Watch};
 use crate::fields::{count_of, grab, peek};
 use crate::lists::{is_first, seek};
 use crate::refusal::{Refusal, Refused};
 use crate::rows::put_row;
-use crate::{Field, Grabbed, Open, Scan, Spot, Step, Within};
+use crate::{Field, Grabbed, Scan, Spot, Step, Within};
 use book::lookup::group_list;
 use forms::Datatype;
 use message::Row;
@@ -78,34 +79,59 @@ fn count_in(taken: Grabbed) -> Option<Field>
     }
 }
 
-// The group reader: a field or a Length with its data; and where it is a count, its own field and then its instances.
+// What was taken off and put down: what comes behind it, and the count's own field if it was a count.
+#[derive(Clone, Copy, Debug, PartialEq, Eq)]
+struct Taken {
+    next: Spot,
+    count: Option<Field>,
+}
+
+// Takes a field off, or a Length with its data, and puts it down. It stays a call, so that what it holds is not held at each level of groups.
+#[inline(never)]
+fn take(
+    scan: &Scan,
+    within: Within,
+    spot: Spot,
+    index: &mut [u16],
+    bytes: &mut [u8],
+) -> Result<Taken, Refused>
+    requires { (length scan.now.m.now ≤ 8192) × (spot.row ≤ spot.at) }
+    ensures { Took (records scan.now.page.book.now) scan.now.m.now within spot result index.old index.new bytes.old bytes.new }
+{
+    let taken = grab(scan.page.book, scan.m, spot.at)?;
+    Ok(Taken {
+        next: put_taken(taken, within, spot.row, index, bytes),
+        count: count_in(taken),
+    })
+}
+
+// The group reader, within a group or, where that has no list, in the message's own list: a field or a Length with its data; and where it is a count, its own field and then its instances.
 #[cycle(items)]
 pub(crate) fn item<'a>(
     scan: &Scan<'a>,
-    around: Open<'a>,
+    group: &Group<'a>,
     depth: usize,
     within: Within,
     spot: Spot,
     index: &mut [u16],
     bytes: &mut [u8],
 ) -> Result<Step, Refused>
-    requires { Ready scan.now around depth spot × (within.depth + depth ≤ 4) }
+    requires { Ready scan.now (opened_of group.now) depth spot × (within.depth + depth ≤ 4) }
     ensures { Meets 1 scan.now.m.now spot.at spot.row
-        (f_item (page_of scan.now.page) scan.now.watch (depth + 1) (outer_by scan.now.page around.entry) within.depth within.count within.instance
+        (f_item (page_of scan.now.page) scan.now.watch (depth + 1) (outer_by scan.now.page (opened_of group.now)) within.depth within.count within.instance
         spot.at spot.row (drop spot.at scan.now.m.now)) result index.old index.new bytes.old bytes.new }
 {
-    let taken = grab(scan.page.book, scan.m, spot.at)?;
-    let mut next = put_taken(taken, within, spot.row, index, bytes);
-    let Some(field) = count_in(taken) else {
+    let Taken { mut next, count } = take(scan, within, spot, index, bytes)?;
+    let Some(field) = count else {
         return Ok(Step::Done {
             at: next.at,
             row: next.row,
         });
     };
-    let group = Group {
+    let inner = Group {
         page: scan.page,
         list: group_list(scan.page.book, field.tag),
-        around,
+        around: group.opened(),
     };
     for done in 0..count_of(scan.m, field.start, field.end) {
         let inside = Within {
@@ -113,13 +139,13 @@ pub(crate) fn item<'a>(
             count: spot.row as u16,
             instance: done as u16 + 1,
         };
-        let step = instance(scan, &group, depth, inside, next, index, bytes)?;
+        let step = instance(scan, &inner, depth, inside, next, index, bytes)?;
         let Step::Done { at, row } = step else {
             return Ok(step);
         };
         next = Spot { at, row };
     }
-    group.end(peek(scan.m, next.at), next)
+    inner.end(peek(scan.m, next.at), next)
 }
 
 // The instance reader: down the group's list, from its first member on.
@@ -151,7 +177,7 @@ fn instance<'a>(
     let mut watch = Watch::new(scan.watch);
     loop {
         watch = watch.seen(tag);
-        let step = item(scan, group.opened(), below, within, spot, index, bytes)?;
+        let step = item(scan, group, below, within, spot, index, bytes)?;
         let Step::Done { at, row } = step else {
             return Ok(step);
         };

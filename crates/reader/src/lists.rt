@@ -1,6 +1,6 @@
 // Questions on member lists. A tag is a u32: 0 stands for the end, 65,536 for every larger one, 65,537 where none stands.
 // kept: tags are u32, since the public functions answer for every u32, and a narrower type would ask more of a caller.
-ghost use Rattle.std.specs.Prelude.{◌≡◌, ◌≤◌, IfSome, length, drop};
+ghost use Rattle.std.specs.Prelude.{◌≡◌, ◌≤◌, ◌<◌, true, IfSome, length, drop};
 ghost use Rattle.book.specs.Records.{members_of, records, is_bounded};
 ghost use Rattle.book.specs.Lists.{member_in};
 ghost use Rattle.message.specs.Permitted.{has_tag, note};
@@ -17,6 +17,13 @@ pub fn has_tag(list: &[u8], tag: u32) -> bool
     ensures { result ≡ has_tag tag (members_of list.now) }
 {
     Members::of(list).any(|m| tag == u32::from(m.tag))
+}
+
+// The same, for one who asks on: a tag in a list is at most 65,535.
+pub(crate) fn lists_tag(list: &[u8], tag: u32) -> bool
+    ensures { (result ≡ has_tag tag (members_of list.now)) × (result ≡ true → tag < 65536) }
+{
+    has_tag(list, tag)
 }
 
 pub fn is_first(list: &[u8], tag: u32) -> bool

@@ -4,21 +4,26 @@ ghost use Rattle.book.specs.Records.{members_of, records};
 ghost use Rattle.message.specs.Permitted.{none, lacking};
 ghost use Rattle.reader.specs.Filling.{f_ending, f_items};
 ghost use Rattle.reader.specs.Marked.{Marked};
-ghost use Rattle.reader.specs.Met.{page_of, Begun, Spare, Says, Meets};
+ghost use Rattle.reader.specs.Met.{page_of, Begun, Spare, opened_of, Says, Meets};
 
-use crate::closing::{Head, Watch, refuse};
+use crate::closing::{Group, Head, Watch, refuse};
 use crate::fields::peek;
 use crate::items::item;
+use crate::lists::lists_tag;
 use crate::marks::Marks;
 use crate::refusal::{Refusal, Refused};
-use crate::{Open, Scan, Spot, Step, Within};
+use crate::{Scan, Spot, Step, Within};
 
 // No group is open.
 #[tactic(auto, unfolding(book::specs::Records::members_of))]
-fn no_group<'a>(_scan: &Scan<'a>) -> Open<'a>
-    ensures { Spare result }
+fn no_group<'a>(scan: &Scan<'a>) -> Group<'a>
+    ensures { Spare (opened_of result) }
 {
-    [&[], &[], &[], &[]]
+    Group {
+        page: scan.page,
+        list: &[],
+        around: [&[]; 4],
+    }
 }
 
 // At the end: a required member of the message that is missing.
@@ -45,26 +50,20 @@ pub(crate) fn own<'a>(
     ensures { Meets 0 scan.now.m.now spot.at spot.row (f_items (page_of scan.now.page) scan.now.watch spot.at spot.row (drop spot.at scan.now.m.now))
         result index.old index.new bytes.old bytes.new }
 {
+    let none = no_group(scan);
     let mut marks = Marks::none();
     let mut spot = spot;
     while spot.at < scan.m.len() {
         let tag = peek(scan.m, spot.at);
-        if !scan.page.begins(scan.page.own, tag) {
+        // A data is in the list too, but no field begins with it: the field reader refuses it as this would, with no second look-up.
+        if !lists_tag(scan.page.own, tag) {
             let head = Head { tag, at: spot.at };
             return refuse(&scan.page, &[], head, Watch::new(scan.watch));
         }
         if marks.has(scan.page.own, tag) {
             return Err(Refusal::Twice.at(spot.at));
         }
-        let step = item(
-            scan,
-            no_group(scan),
-            4,
-            Within::message(),
-            spot,
-            index,
-            bytes,
-        )?;
+        let step = item(scan, &none, 4, Within::message(), spot, index, bytes)?;
         let Step::Done { at, row } = step else {
             return Ok(step);
         };

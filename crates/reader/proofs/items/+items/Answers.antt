@@ -1,11 +1,8 @@
 use mathlib.Core.Path.{◌≡◌, refl, sym, ◌∙◌}
 use native.Mathlib.Omega.{arith}
-use Rattle.std.proofs.Common.{◌+◌, ◌-◌, ◌≤◌, ◌<◌, length, drop, false, Ok, Err, rules}
-use Rattle.book.specs.Records.{records}
-use Rattle.reader.specs.Fields.{grab}
-use Rattle.reader.specs.Met.{page_of, outer_by, Meets}
-use Rattle.reader.proofs.Framing.{refused}
-use Rattle.reader.proofs.ItemLaws.{item_bad, item_plain, taken_short, spare_last, spare_below, item_read, no_first_meets, instance_zero, instancing_first, instancing_next, instancing_bad, instancing_ask, instancing_end, membering_first, membering_next, membering_bad, membering_ask, membering_end}
+use Rattle.std.proofs.Common.{◌+◌, drop, Err, rules}
+use Rattle.reader.specs.Met.{page_of, outer_by, opened_of}
+use Rattle.reader.proofs.ItemLaws.{item_bad, item_plain_at, spare_last, spare_below, item_read, no_first_meets, instance_zero, instancing_first, instancing_next, instancing_bad, instancing_ask, instancing_end, membering_first, membering_next, membering_bad, membering_ask, membering_end}
 use Rattle.reader.proofs.items.+items.Goals as goal
 
 pub instance-returns-then-not-is_first : goal.instance-returns-then-not-is_first
@@ -39,7 +36,7 @@ instance-item-requires t c =
           inside = g.inside;
           rows = omega (arith, g.count, g.costs, r.rows);
           left = omega (arith, r.left, h.level);
-          spare = rw c.opened.ensures (spare_below a.depth c.in-Some.below a.group.now.list a.group.now.around h.level r.left r.spare);
+          spare = spare_below a.depth c.in-Some.below a.group.now.list a.group.now.around h.level r.left r.spare;
         },
         omega (arith, c.requires.1, h.level),
       ),
@@ -49,14 +46,14 @@ pub instance-returns-in_default-step : goal.instance-returns-in_default-step
 instance-returns-in_default-step t c =
     let a = c.args in
     let h = c.loop-step.invariant in
-    let e = item_read a.group.now a.scan.now.page c.opened.result a.scan.now.watch c.in-Some.below a.depth a.within c.loop-step.spot.at c.loop-step.spot.row (drop c.loop-step.spot.at a.scan.now.m.now) c.requires.2 c.opened.ensures (spare_last a.depth c.in-Some.below a.group.now.list a.group.now.around h.level c.requires.0.left c.requires.0.spare) h.level in
+    let e = item_read a.group.now a.scan.now.page (opened_of a.group.now) a.scan.now.watch c.in-Some.below a.depth a.within c.loop-step.spot.at c.loop-step.spot.row (drop c.loop-step.spot.at a.scan.now.m.now) c.requires.2 refl (spare_last a.depth c.in-Some.below a.group.now.list a.group.now.around h.level c.requires.0.left c.requires.0.spare) h.level in
     rw c.in_default-step.is (membering_ask a.group.now a.scan.now.m.now a.scan.now.watch a.within a.depth a.spot.at a.spot.row a.index.now a.bytes.now c.in-Some.below c.loop-step.tag c.loop-step.place c.loop-step.missing c.loop-step.watch c.loop-step.spot c.loop-step.index c.loop-step.bytes h c.item.new.index c.item.new.bytes _ (rw (e, c.in_ok-step.was, c.in_default-step.is) at c.item.ensures))
 
 pub instance-returns-in_err-step : goal.instance-returns-in_err-step
 instance-returns-in_err-step t c =
     let a = c.args in
     let h = c.loop-step.invariant in
-    let e = item_read a.group.now a.scan.now.page c.opened.result a.scan.now.watch c.in-Some.below a.depth a.within c.loop-step.spot.at c.loop-step.spot.row (drop c.loop-step.spot.at a.scan.now.m.now) c.requires.2 c.opened.ensures (spare_last a.depth c.in-Some.below a.group.now.list a.group.now.around h.level c.requires.0.left c.requires.0.spare) h.level in
+    let e = item_read a.group.now a.scan.now.page (opened_of a.group.now) a.scan.now.watch c.in-Some.below a.depth a.within c.loop-step.spot.at c.loop-step.spot.row (drop c.loop-step.spot.at a.scan.now.m.now) c.requires.2 refl (spare_last a.depth c.in-Some.below a.group.now.list a.group.now.around h.level c.requires.0.left c.requires.0.spare) h.level in
     let q : c.from_residual.result ≡ Err c.in_err-step.field-0.0 = search rules in
     rw q (membering_bad a.group.now a.scan.now.m.now a.scan.now.watch a.within a.depth a.spot.at a.spot.row a.index.now a.bytes.now c.in-Some.below c.loop-step.tag c.loop-step.place c.loop-step.missing c.loop-step.watch c.loop-step.spot c.loop-step.index c.loop-step.bytes h c.item.new.index c.item.new.bytes _ (rw (e, c.in_err-step.was) at c.item.ensures))
 
@@ -64,7 +61,7 @@ pub instance-returns-in_default-place : goal.instance-returns-in_default-place
 instance-returns-in_default-place t c =
     let a = c.args in
     let h = c.loop-step.invariant in
-    let e = item_read a.group.now a.scan.now.page c.opened.result a.scan.now.watch c.in-Some.below a.depth a.within c.loop-step.spot.at c.loop-step.spot.row (drop c.loop-step.spot.at a.scan.now.m.now) c.requires.2 c.opened.ensures (spare_last a.depth c.in-Some.below a.group.now.list a.group.now.around h.level c.requires.0.left c.requires.0.spare) h.level in
+    let e = item_read a.group.now a.scan.now.page (opened_of a.group.now) a.scan.now.watch c.in-Some.below a.depth a.within c.loop-step.spot.at c.loop-step.spot.row (drop c.loop-step.spot.at a.scan.now.m.now) c.requires.2 refl (spare_last a.depth c.in-Some.below a.group.now.list a.group.now.around h.level c.requires.0.left c.requires.0.spare) h.level in
     let k = rw (e, c.in_ok-step.was, c.in-Done.is) at c.item.ensures in
     membering_end a.group.now a.scan.now.m.now a.scan.now.watch a.within a.depth a.spot.at a.spot.row a.index.now a.bytes.now c.in-Some.below c.loop-step.tag c.loop-step.place c.loop-step.missing c.loop-step.watch c.loop-step.spot c.loop-step.index c.loop-step.bytes h c.item.new.index c.item.new.bytes _ _ k _ (sym c.peek-tag-in-loop-step.ensures) c.seek-sought.result _ c.seen-watch.ensures c.seek-sought.ensures.walked c.in_default-place.is _ (c.close.ensures _ (sym c.peek-tag-in-loop-step.ensures))
 
@@ -72,28 +69,30 @@ pub instance-loop-step-preserved : goal.instance-loop-step-preserved
 instance-loop-step-preserved t c =
     let a = c.args in
     let h = c.loop-step.invariant in
-    let e = item_read a.group.now a.scan.now.page c.opened.result a.scan.now.watch c.in-Some.below a.depth a.within c.loop-step.spot.at c.loop-step.spot.row (drop c.loop-step.spot.at a.scan.now.m.now) c.requires.2 c.opened.ensures (spare_last a.depth c.in-Some.below a.group.now.list a.group.now.around h.level c.requires.0.left c.requires.0.spare) h.level in
+    let e = item_read a.group.now a.scan.now.page (opened_of a.group.now) a.scan.now.watch c.in-Some.below a.depth a.within c.loop-step.spot.at c.loop-step.spot.row (drop c.loop-step.spot.at a.scan.now.m.now) c.requires.2 refl (spare_last a.depth c.in-Some.below a.group.now.list a.group.now.around h.level c.requires.0.left c.requires.0.spare) h.level in
     let k = rw (e, c.in_ok-step.was, c.in-Done.is) at c.item.ensures in
     membering_next a.group.now a.scan.now.m.now a.scan.now.watch a.within a.depth a.spot.at a.spot.row a.index.now a.bytes.now c.in-Some.below c.loop-step.tag c.loop-step.place c.loop-step.missing c.loop-step.watch c.loop-step.spot c.loop-step.index c.loop-step.bytes h c.item.new.index c.item.new.bytes _ _ k _ (sym c.peek-tag-in-loop-step.ensures) c.seek-sought.result _ c.seen-watch.ensures c.seek-sought.ensures.walked _ c.in-Some-place.is (rw c.in-Some-place.is at c.seek-sought.ensures.inside)
 
-pub item-returns-in_err-taken : goal.item-returns-in_err-taken
-item-returns-in_err-taken t c =
+pub item-take-requires : goal.item-take-requires
+item-take-requires t c = (c.requires.0.short, c.requires.0.rows)
+
+pub item-returns-in_err-next : goal.item-returns-in_err-next
+item-returns-in_err-next t c =
     let a = c.args in
-    let r : c.grab.result ≡ Err c.in_err-taken.field-0.0 = c.in_err-taken.was in
-    let q : c.from_residual.result ≡ Err c.in_err-taken.field-0.0 = search rules in
-    rw q (item_bad (page_of a.scan.now.page) a.scan.now.watch a.depth (outer_by a.scan.now.page a.around) a.within a.scan.now.m.now a.spot.at a.spot.row _ (rw r at c.grab.ensures) c.requires.0.inside a.index.now a.index.now a.bytes.now a.bytes.now)
+    let q : c.from_residual.result ≡ Err c.in_err-next.field-0.0 = search rules in
+    rw q (item_bad (page_of a.scan.now.page) a.scan.now.watch a.depth (outer_by a.scan.now.page (opened_of a.group.now)) a.within a.scan.now.m.now a.spot.at a.spot.row _ (rw c.in_err-next.was at c.take.ensures) c.requires.0.inside a.index.now _ a.bytes.now _)
 
 pub item-returns-in_default : goal.item-returns-in_default
 item-returns-in_default t c =
     let a = c.args in
-    let r : c.grab.result ≡ Ok c.in_ok-taken.taken = c.in_ok-taken.was in
-    rw (c.put_taken-next.ensures.0, c.put_taken-next.ensures.1, c.put_taken-next.ensures.2) (item_plain (page_of a.scan.now.page) a.scan.now.watch a.depth (outer_by a.scan.now.page a.around) a.within a.scan.now.m.now a.spot.at a.spot.row a.index.now a.bytes.now c.in_ok-taken.taken (rw r at c.grab.ensures) (sym c.count_in.ensures ∙ c.in_default.is))
+    let k = rw c.in_ok-next.was at c.take.ensures in
+    item_plain_at (page_of a.scan.now.page) a.scan.now.watch a.depth (outer_by a.scan.now.page (opened_of a.group.now)) a.within a.scan.now.m.now a.spot.at a.spot.row a.index.now a.bytes.now k.0 k.1 (sym k.2 ∙ c.in_default.is) _ k.3 _ _ k.4 k.5
 
 pub item-loop-done-init : goal.item-loop-done-init
 item-loop-done-init t c =
     let a = c.args in
-    let r : c.grab.result ≡ Ok c.in_ok-taken.taken = c.in_ok-taken.was in
-    instancing_first (record { page = a.scan.now.page; list = c.group_list.result; around = a.around }) a.scan.now.m.now a.scan.now.watch a.within a.depth a.spot.at a.spot.row a.index.now a.bytes.now c.in_ok-taken.taken (rw r at c.grab.ensures) c.in-Some.field (sym c.count_in.ensures ∙ c.in-Some.is) c.group_list.ensures _ c.count_of-done-end.ensures _ c.put_taken-next.ensures.2 _ _ c.put_taken-next.ensures.0 c.put_taken-next.ensures.1
+    let k = rw c.in_ok-next.was at c.take.ensures in
+    instancing_first (record { page = a.scan.now.page; list = c.group_list.result; around = c.opened.result }) a.scan.now.m.now a.scan.now.watch a.within a.depth a.spot.at a.spot.row a.index.now a.bytes.now k.0 k.1 c.in-Some.field (sym k.2 ∙ c.in-Some.is) c.group_list.ensures _ c.count_of-done-end.ensures _ k.3 _ _ k.4 k.5
 
 pub item-instance-requires : goal.item-instance-requires
 item-instance-requires t c =
@@ -108,7 +107,7 @@ item-instance-requires t c =
           inside = g.inside;
           rows = omega (arith, g.count, g.costs, r.rows);
           left = r.left;
-          spare = r.spare;
+          spare = rw c.opened.ensures r.spare;
         },
         omega (arith, c.requires.1),
         refl,
@@ -119,23 +118,23 @@ pub item-returns-in_default-step : goal.item-returns-in_default-step
 item-returns-in_default-step t c =
     let a = c.args in
     let h = c.loop-done.invariant in
-    rw c.in_default-step.is (instancing_ask (record { page = a.scan.now.page; list = c.group_list.result; around = a.around }) a.scan.now.m.now a.scan.now.watch a.within a.depth a.spot.at a.spot.row a.index.now a.bytes.now c.loop-done.done c.count_of-done-end.result c.loop-done.next c.loop-done.index c.loop-done.bytes h (omega (arith, c.loop-done-test.true)) _ _ _ (rw (c.in_ok-step.was, c.in_default-step.is) at c.instance.ensures))
+    rw c.in_default-step.is (rw c.opened.ensures at (instancing_ask (record { page = a.scan.now.page; list = c.group_list.result; around = c.opened.result }) a.scan.now.m.now a.scan.now.watch a.within a.depth a.spot.at a.spot.row a.index.now a.bytes.now c.loop-done.done c.count_of-done-end.result c.loop-done.next c.loop-done.index c.loop-done.bytes h (omega (arith, c.loop-done-test.true)) _ _ _ (rw (c.in_ok-step.was, c.in_default-step.is) at c.instance.ensures)))
 
 pub item-returns-in_err-step : goal.item-returns-in_err-step
 item-returns-in_err-step t c =
     let a = c.args in
     let h = c.loop-done.invariant in
     let q : c.from_residual-in_err-step.result ≡ Err c.in_err-step.field-0.0 = search rules in
-    rw q (instancing_bad (record { page = a.scan.now.page; list = c.group_list.result; around = a.around }) a.scan.now.m.now a.scan.now.watch a.within a.depth a.spot.at a.spot.row a.index.now a.bytes.now c.loop-done.done c.count_of-done-end.result c.loop-done.next c.loop-done.index c.loop-done.bytes h (omega (arith, c.loop-done-test.true)) _ _ _ (rw c.in_err-step.was at c.instance.ensures))
+    rw q (rw c.opened.ensures at (instancing_bad (record { page = a.scan.now.page; list = c.group_list.result; around = c.opened.result }) a.scan.now.m.now a.scan.now.watch a.within a.depth a.spot.at a.spot.row a.index.now a.bytes.now c.loop-done.done c.count_of-done-end.result c.loop-done.next c.loop-done.index c.loop-done.bytes h (omega (arith, c.loop-done-test.true)) _ _ _ (rw c.in_err-step.was at c.instance.ensures)))
 
 pub item-loop-done-preserved : goal.item-loop-done-preserved
 item-loop-done-preserved t c =
     let a = c.args in
     let h = c.loop-done.invariant in
-    instancing_next (record { page = a.scan.now.page; list = c.group_list.result; around = a.around }) a.scan.now.m.now a.scan.now.watch a.within a.depth a.spot.at a.spot.row a.index.now a.bytes.now c.loop-done.done c.count_of-done-end.result c.loop-done.next c.loop-done.index c.loop-done.bytes h (omega (arith, c.loop-done-test.true)) _ _ _ _ (rw (c.in_ok-step.was, c.in-Done.is) at c.instance.ensures)
+    instancing_next (record { page = a.scan.now.page; list = c.group_list.result; around = c.opened.result }) a.scan.now.m.now a.scan.now.watch a.within a.depth a.spot.at a.spot.row a.index.now a.bytes.now c.loop-done.done c.count_of-done-end.result c.loop-done.next c.loop-done.index c.loop-done.bytes h (omega (arith, c.loop-done-test.true)) _ _ _ _ (rw (c.in_ok-step.was, c.in-Done.is) at c.instance.ensures)
 
 pub item-returns : goal.item-returns
 item-returns t c =
     let a = c.args in
     let h = c.loop-done.invariant in
-    instancing_end (record { page = a.scan.now.page; list = c.group_list.result; around = a.around }) a.scan.now.m.now a.scan.now.watch a.within a.depth a.spot.at a.spot.row a.index.now a.bytes.now c.loop-done.done c.count_of-done-end.result c.loop-done.next c.loop-done.index c.loop-done.bytes h (omega (arith, c.loop-done-test.false)) c.requires.0.short _ (c.end.ensures _ _ (sym c.peek.ensures))
+    rw c.opened.ensures at (instancing_end (record { page = a.scan.now.page; list = c.group_list.result; around = c.opened.result }) a.scan.now.m.now a.scan.now.watch a.within a.depth a.spot.at a.spot.row a.index.now a.bytes.now c.loop-done.done c.count_of-done-end.result c.loop-done.next c.loop-done.index c.loop-done.bytes h (omega (arith, c.loop-done-test.false)) c.requires.0.short _ (c.end.ensures _ _ (sym c.peek.ensures)))

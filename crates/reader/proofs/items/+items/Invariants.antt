@@ -1,6 +1,4 @@
-use Rattle.std.proofs.Common.{◌≡◌, ◌+◌, ◌≤◌, ◌<◌, ◌-◌, length, drop}
-use Rattle.reader.specs.Filling.{f_item, f_inst}
-use Rattle.reader.specs.Met.{page_of, outer_by, inner_by, ends_by, list_of}
+use Rattle.std.proofs.Common.{◌+◌, ◌-◌, length}
 use Rattle.reader.proofs.ItemLaws.{Instancing, Membering}
 use Rattle.reader.proofs.items.+items.Given as goal
 
@@ -19,4 +17,4 @@ decreases-instance-loop-step l = length l.scan.m.now - l.spot.at
 
 abbrev pub invariant-item-loop-done : goal.invariant-item-loop-done
 invariant-item-loop-done l =
-    Instancing l.group l.scan.m.now l.scan.watch l.within l.depth l.spot.at l.spot.row l.fn.index l.fn.bytes l.done l.done-end l.next l.index l.bytes
+    Instancing l.inner l.scan.m.now l.scan.watch l.within l.depth l.spot.at l.spot.row l.fn.index l.fn.bytes l.done l.done-end l.next l.index l.bytes

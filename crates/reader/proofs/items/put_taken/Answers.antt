@@ -1,4 +1,4 @@
-use mathlib.Core.Path.{◌≡◌, ◌∙◌, refl}
+use mathlib.Core.Path.{◌∙◌, refl}
 use Rattle.reader.proofs.RowLaws.{rows_one, rows_two}
 use Rattle.reader.specs.Filling.{row_numbers, row_bytes}
 use Rattle.reader.specs.Met.{field_row}

@@ -1,6 +1,6 @@
 use mathlib.Core.Path.{◌≡◌, refl, sym, ap, ◌∙◌}
 use Rattle.book.specs.Records.{members_of, records}
-use Rattle.message.specs.Permitted.{Miss, none, lacks, lacking}
+use Rattle.message.specs.Permitted.{none, lacks, lacking}
 use Rattle.reader.specs.Filling.{f_ending}
 use Rattle.reader.specs.Met.{miss_of}
 use Rattle.reader.proofs.own.ending.Goals as goal

@@ -1,8 +1,7 @@
 use mathlib.Core.Path.{◌≡◌, refl}
 use native.Mathlib.Omega.{arith}
-use Rattle.std.proofs.Common.{◌<◌, Err, rules}
+use Rattle.std.proofs.Common.{Err, rules}
 use Rattle.reader.specs.Met.{page_of}
-use Rattle.reader.proofs.FillLaws.{too_long}
 use Rattle.reader.proofs.ReadLaws.{counts_done, counts_bad, asked}
 use Rattle.reader.proofs.reading.count_rows.Goals as goal
 

@@ -2,7 +2,7 @@ use mathlib.Core.Path.{◌≡◌, refl}
 use native.Mathlib.Omega.{arith}
 use Rattle.std.proofs.Common.{◌≤◌, ◌<◌, ◌/◌, length, Err, rules}
 use Rattle.reader.specs.Filling.{row_numbers, row_bytes}
-use Rattle.reader.proofs.FillLaws.{Whole, refusal_told, refusal_kept, gives_told, gives_put, put_again, too_long, no_frame, bad_items, good_items, no_room, with_room, body_short, body_inside, listed_few}
+use Rattle.reader.proofs.FillLaws.{refusal_told, refusal_kept, gives_told, gives_put, put_again, too_long, no_frame, bad_items, good_items, no_room, with_room, body_short, body_inside, listed_few}
 use Rattle.reader.proofs.reading.fill.Goals as goal
 
 pub returns-then-msg-gt8192-clause-told : goal.returns-then-msg-gt8192-clause-told

@@ -1,9 +1,8 @@
-use mathlib.Core.Path.{◌≡◌, refl, sym, ◌∙◌}
+use mathlib.Core.Path.{◌≡◌}
 use native.Mathlib.Omega.{arith}
-use Rattle.std.proofs.Common.{◌+◌, ◌≤◌, length, Err, rules}
+use Rattle.std.proofs.Common.{Err, rules}
 use Rattle.reader.specs.Filling.{row_numbers, row_bytes}
 use Rattle.reader.specs.Met.{page_of}
-use Rattle.reader.proofs.ReadLaws.{few}
 use Rattle.reader.proofs.StageLaws.{heads_put, message_bad, message_ask, message_done}
 use Rattle.reader.proofs.reading.put_message.Goals as goal
 

@@ -1,10 +1,9 @@
 use mathlib.Core.Path.{refl}
-use Rattle.std.proofs.Common.{◌≡◌, sym, ◌∙◌, rules, true, false}
+use Rattle.std.proofs.Common.{◌≡◌, sym, ◌∙◌, true, false}
 use Rattle.reader.specs.Fields.{peek}
 use Rattle.reader.specs.Items.{is_first}
 use Rattle.reader.specs.Filling.{f_closed}
 use Rattle.reader.specs.Met.{list_of}
-use Rattle.reader.proofs.ItemLaws.{stands_end}
 use Rattle.reader.proofs.closing.Group.end.Goals as goal
 
 pub returns-then-is_first : goal.returns-then-is_first
