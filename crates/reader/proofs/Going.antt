@@ -1,5 +1,5 @@
 -- Laws of a reading that goes from place to place and puts its rows one behind the other. Assumes nothing.
-use mathlib.Core.Path.{◌≡◌, refl, sym, ◌∙◌}
+use mathlib.Core.Path.{◌≡◌, refl, sym, ap, ◌∙◌}
 use mathlib.Core.Bool.{Bool, true, false, cond, ◌||◌}
 use mathlib.Core.List.{List, [], ◌∷◌, ◌++◌, append_assoc, append-nil}
 use Prim.Native.Nat.{ℕ, ◌+◌, ◌≤◌, ◌<◌}
@@ -95,6 +95,10 @@ next_ask : (t : ℕ) (G : List Row → ℕ → List ℕ → Fill) (q : List Row)
 unfolding next before
 next_ask t G q = refl
 
+before_all : (q p : List Row) (a : ℕ) (r : List ℕ) → before q (full p a r) ≡ full (q ++ p) a r
+unfolding before
+before_all q p a r = refl
+
 pub before_full : (q : List Row) (a : ℕ) (r : List ℕ) → before q (full [] a r) ≡ full q a r
 unfolding before
 before_full q a r = rw (append-nil q)
@@ -129,6 +133,9 @@ module _ (m i b : List ℕ) (at k : ℕ) (whole : Fill) where
     costs = omega arith;
     inside = h;
   }
+
+  pub going_here : (F G : Fill) (a n : ℕ) (j d : List ℕ) → F ≡ G → Going m i b at k whole F a n j d → Going m i b at k whole G a n j d
+  going_here F G a n j d e g = record { rows = g.rows; made = g.made ∙ ap (before g.rows) e; index = g.index; bytes = g.bytes; count = g.count; costs = g.costs; inside = g.inside }
 
   module _ (F : Fill) (a n : ℕ) (j d j' d' : List ℕ) where
     module _ (H : ℕ → ℕ → List ℕ → Fill) (g : Going m i b at k whole (next F (λ q x r. H x (n + length q) r)) a n j d) where
@@ -186,4 +193,25 @@ module _ (m i b : List ℕ) (at k : ℕ) (whole : Fill) where
               rw ea g.costs,
               g.index,
               g.bytes,
+            )
+
+    -- what is left to read is read by one who puts its rows down behind these
+    pub going_meets : Going m i b at k whole F a n j d → at + 1 ≤ a → (x : Result Step Refused) → Meets 0 m a n F x j j' d d' → Meets 1 m at k whole x i j' b d'
+    going_meets g h x M = go F refl M
+      where
+        go : (E : Fill) → F ≡ E → Meets 0 m a n E x j j' d d' → Meets 1 m at k whole x i j' b d'
+        go (poor y t s) e M = let z : whole ≡ poor y t s = g.made ∙ rw e (before_poor g.rows y t s) in rw z M
+        go (ask t) e M = let z : whole ≡ ask t = g.made ∙ rw e (before_ask g.rows t) in rw z M
+        go (full q y r) e (ex, er, inside, past, costs, ei, eb) =
+            let z : whole ≡ full (g.rows ++ q) y r = g.made ∙ rw e (before_all g.rows q y r) in
+            let l : length (g.rows ++ q) ≡ length g.rows + length q = length-append g.rows q in
+            let c : n + length q ≡ k + length (g.rows ++ q) = rw (g.count, l) (omega arith) in
+            rw z (
+              rw (← c) ex,
+              er,
+              inside,
+              omega (arith, h, past),
+              rw l (omega (arith, g.costs, costs)),
+              ei ∙ rw (g.index, g.count) (rows_then 6 row_numbers i k g.rows q),
+              eb ∙ rw (g.bytes, g.count) (rows_then 12 row_bytes b k g.rows q),
             )

@@ -23,7 +23,6 @@ use Rattle.reader.specs.declared.Step.{Step}
 use Rattle.reader.specs.declared.Field.{Field}
 use Rattle.reader.specs.declared.Grabbed.{Grabbed}
 use Rattle.reader.specs.declared.Grabbed.TheVariants.{Single, Pair}
-use Rattle.forms.specs.declared.Datatype.TheVariants.{NumInGroup}
 use Rattle.forms.specs.Numbered.{number_of}
 use Rattle.reader.specs.declared.Step.TheVariants.{Done, Ask}
 use Rattle.reader.specs.declared.Spot.{Spot}
@@ -39,8 +38,9 @@ use Rattle.reader.specs.Fields.{torn, peek, Grab, got, fault, grab}
 use Rattle.reader.specs.Items.{is_first, has_place, starts}
 use Rattle.reader.specs.Filling.{Fill, full, poor, ask, before, next, f_refuse, f_close, f_members, f_inst, f_insts, f_closed, f_group, f_node_by, f_item, Seek, passed, met, seek_in, put_rows, row_numbers, row_bytes}
 use Rattle.reader.specs.Taken.{between, Stands, Takes}
-use Rattle.reader.specs.Met.{page_of, outer_by, inner_by, ends_by, list_of, miss_of, sought_in, count_in, grab_rows, grab_end, AllShort, Spare, Says, Meets}
-use Rattle.reader.proofs.Going.{Going, is_full, inst_other, next_poor, closed_next, going_first, going_on, going_bad, going_ask, going_says}
+use Rattle.reader.specs.declared.items.Taken.{Taken}
+use Rattle.reader.specs.Met.{page_of, outer_by, inner_by, ends_by, list_of, miss_of, sought_in, count_in, grab_rows, grab_end, AllShort, Spare, Says, Took, Meets}
+use Rattle.reader.proofs.Going.{Going, going_here, is_full, inst_other, next_poor, closed_next, going_first, going_on, going_bad, going_ask, going_says, going_meets}
 
 -- the row of a field that stands at a place, and the place behind it
 module _ (m : List ℕ) (at t a b : ℕ) (st : Stands m at t a b) where
@@ -126,23 +126,6 @@ module _ (P : Page) (w : ℕ) (read : ℕ → ℕ → ℕ → List ℕ → Fill)
   unfolding f_insts
   left_end done a k s h = let e : n - done ≡ 0 = omega (arith, h) in rw e
 
--- a count, its own field and then its instances
-module _ (g : Group) (w d : ℕ) (v : Within) (m : List ℕ) (at k : ℕ) (f : Field) where
-  pub item_group : Stands m at f.tag f.start f.end → got (single f.tag (between m f.start f.end)) (drop (f.end + 1) m) ≡ grab (page_of g.page).book (drop at m)
-      → is_count (page_of g.page).book f.tag ≡ true → list_of g ≡ group_of (page_of g.page).book f.tag
-      → Whole (page_of g.page) w d (outer_by g.page g.around) v m at k
-      ≡ before (grab_rows v (Single f NumInGroup)) (left_by (page_of g.page) w (λ j. f_item (page_of g.page) w d (inner_by g) (v.depth + 1) k j) (list_of g) (ends_by g) (value (between m f.start f.end)) 0 (f.end + 1) (k + 1) (drop (f.end + 1) m))
-  item_group st e c l =
-      let P = page_of g.page in
-      let out = outer_by g.page g.around in
-      whole_is P w d out v m at k _ e ∙ node_group P w d out v m at k f (between m f.start f.end) (drop (f.end + 1) m) c
-      ∙ rw (
-        group_is P w d out v m at k f (value (between m f.start f.end)) v.depth (at + field_size f.tag (between m f.start f.end)) k (drop (f.end + 1) m) (list_of g) l,
-        stands_end m at f.tag f.start f.end st,
-        stands_row m at f.tag f.start f.end st v,
-        sub-zero,
-      )
-
 -- what is open within a group
 any_spare : (f : Bor (List ℕ) → Bool) → ((l : Bor (List ℕ)) → members_of l.now ≡ [] → f l ≡ false) → (n : ℕ) (a : List (Bor (List ℕ))) → Spare (drop n a) → list_any f (take n a) ≡ list_any f a
 any_spare f empty zero [] h = refl
@@ -227,14 +210,13 @@ module _ (g : Group) (w : ℕ) (read : ℕ → ℕ → List ℕ → Fill) where
       go true e ih = let k : t ≡ m.tag = eqb-true t m.tag e in rw (p, e, k)
       go false e ih = rw (p, e) ih
 
--- the loop over the instances of a count: so many are done of those that its text says, of which the code counts 65,536
-pub record Instancing (g : Group) (m : List ℕ) (w : ℕ) (v : Within) (d at k : ℕ) (i b : List ℕ) (done end : ℕ) (p : Spot) (j u : List ℕ) : Type 0 where
-  pub said : ℕ
-  pub end_is : end ≡ min said 65536
+-- the loop over the instances of a count f at a place: so many are done of those that its text says, of which the code counts 65,536
+pub record Instancing (g : Group) (m : List ℕ) (w : ℕ) (v : Within) (d at k : ℕ) (f : Field) (i b : List ℕ) (done end : ℕ) (p : Spot) (j u : List ℕ) : Type 0 where
+  pub end_is : end ≡ min (value (between m f.start f.end)) 65536
   pub some : done ≤ end
   pub moved : at + 1 + done ≤ p.at
-  pub going : Going m i b at k (Whole (page_of g.page) w d (outer_by g.page g.around) v m at k)
-      (left_by (page_of g.page) w (λ j. f_item (page_of g.page) w d (inner_by g) (v.depth + 1) k j) (list_of g) (ends_by g) said done p.at p.row (drop p.at m)) p.at p.row j u
+  pub going : Going m i b (f.end + 1) (k + 1) (f_group (page_of g.page) w (f_item (page_of g.page) w d) (outer_by g.page g.around) f.tag (value (between m f.start f.end)) v.depth (f.end + 1) k (drop (f.end + 1) m))
+      (left_by (page_of g.page) w (λ j. f_item (page_of g.page) w d (inner_by g) (v.depth + 1) k j) (list_of g) (ends_by g) (value (between m f.start f.end)) done p.at p.row (drop p.at m)) p.at p.row j u
 
 -- the loop down a group's list: a member stands at the place
 pub record Membering (g : Group) (m : List ℕ) (w : ℕ) (v : Within) (d at k : ℕ) (i b : List ℕ) (below t place : ℕ) (missing : Option ℕ) (x : Watch) (p : Spot) (j u : List ℕ) : Type 0 where
@@ -280,33 +262,24 @@ pub taken_short : (B : List Record) (m : List ℕ) (at : ℕ) (t : Grabbed) (g :
 taken_short B m at (Single f y) g (e, (known, st)) h = (omega (arith, st.some), omega (arith, st.inside))
 taken_short B m at (Pair l r) g (e, (st, su)) h = ((omega (arith, st.some), omega (arith, st.inside)), (omega (arith, su.some), omega (arith, su.inside)))
 
-module _ (g : Group) (m : List ℕ) (w : ℕ) (v : Within) (d at k : ℕ) (i b : List ℕ) where
+module _ (g : Group) (m : List ℕ) (w : ℕ) (v : Within) (d at k : ℕ) (f : Field) (i b : List ℕ) where
   abbrev Here : ℕ → ℕ → Spot → List ℕ → List ℕ → Type 0
-  Here done end p j u = Instancing g m w v d at k i b done end p j u
+  Here done end p j u = Instancing g m w v d at k f i b done end p j u
 
-  pub instancing_first : (t : Grabbed) → Takes (page_of g.page).book m at (grab (page_of g.page).book (drop at m)) (Ok t) → (f : Field) → count_in t ≡ Some f
-      → list_of g ≡ group_of (page_of g.page).book f.tag → (end : ℕ) → end ≡ min (value (between m f.start f.end)) 65536
-      → (p : Spot) → p ≡ record { at = grab_end t; row = k + length (grab_rows v t) } → (j u : List ℕ) → j ≡ put_rows 6 row_numbers i k (grab_rows v t) → u ≡ put_rows 12 row_bytes b k (grab_rows v t)
-      → Here 0 end p j u
-  instancing_first (Pair l r) T f n q end ee p ep j u ej eu = let z : None ≡ Some f = n in absurd (none_some f z)
-  instancing_first (Single h y) (e, (known, st)) f n q end ee p ep j u ej eu =
-      let n7 : number_of y ≡ 7 = eqb-true (number_of y) 7 (some_true (eqb (number_of y) 7) h f n) in
-      let hf : h ≡ f = some_same (eqb (number_of y) 7) h f n in
-      record {
-        said = value (between m f.start f.end);
-        end_is = ee;
-        some = omega arith;
-        moved = rw ep (omega (arith, st.past, st.some));
-        going = record {
-          rows = grab_rows v (Single h y);
-          made = rw (ep, ← hf) (item_group g w d v m at k h st e (rw (← known) (eq-eqb (number_of y) 7 n7)) (rw hf q));
-          index = ej;
-          bytes = eu;
-          count = rw ep refl;
-          costs = rw ep (omega (arith, st.past, st.some));
-          inside = rw ep (omega (arith, st.inside));
-        };
-      }
+  abbrev pub Counted : Fill
+  Counted = f_group (page_of g.page) w (f_item (page_of g.page) w d) (outer_by g.page g.around) f.tag (value (between m f.start f.end)) v.depth (f.end + 1) k (drop (f.end + 1) m)
+
+  counted_is : list_of g ≡ group_of (page_of g.page).book f.tag
+      → Counted ≡ left_by (page_of g.page) w (λ j. f_item (page_of g.page) w d (inner_by g) (v.depth + 1) k j) (list_of g) (ends_by g) (value (between m f.start f.end)) 0 (f.end + 1) (k + 1) (drop (f.end + 1) m)
+  counted_is l =
+      let n = value (between m f.start f.end) in
+      group_is (page_of g.page) w d (outer_by g.page g.around) v m at k f n v.depth (f.end + 1) k (drop (f.end + 1) m) (list_of g) l ∙ rw sub-zero
+
+  pub instancing_first : Stands m at f.tag f.start f.end → list_of g ≡ group_of (page_of g.page).book f.tag → (end : ℕ) → end ≡ min (value (between m f.start f.end)) 65536
+      → Here 0 end (record { at = f.end + 1; row = k + 1 }) i b
+  instancing_first st l end ee =
+      let first = going_first m i b (f.end + 1) (k + 1) Counted (omega (arith, st.inside)) in
+      record { end_is = ee; some = omega arith; moved = omega (arith, st.past, st.some); going = going_here m i b (f.end + 1) (k + 1) Counted Counted _ (f.end + 1) (k + 1) i b (counted_is l) first }
 
   module _ (done end : ℕ) (p : Spot) (j u : List ℕ) (h : Here done end p j u) where
     abbrev read : ℕ → ℕ → ℕ → List ℕ → Fill
@@ -316,29 +289,29 @@ module _ (g : Group) (m : List ℕ) (w : ℕ) (v : Within) (d at k : ℕ) (i b :
     Next = f_inst (page_of g.page) w (read (done + 1)) (list_of g) (ends_by g) (list_of g) p.at p.row (drop p.at m)
 
     abbrev Rest : ℕ → ℕ → List ℕ → Fill
-    Rest a n r = left_by (page_of g.page) w read (list_of g) (ends_by g) h.said (done + 1) a n r
+    Rest a n r = left_by (page_of g.page) w read (list_of g) (ends_by g) (value (between m f.start f.end)) (done + 1) a n r
 
     module _ (more : done < end) where
-      turned : Going m i b at k (Whole (page_of g.page) w d (outer_by g.page g.around) v m at k) (next Next (λ q x r. Rest x (p.row + length q) r)) p.at p.row j u
-      turned = rw (← left_turn (page_of g.page) w read (list_of g) (ends_by g) h.said done p.at p.row (drop p.at m) (omega (arith, h.end_is, more))) h.going
+      turned : Going m i b (f.end + 1) (k + 1) Counted (next Next (λ q x r. Rest x (p.row + length q) r)) p.at p.row j u
+      turned = rw (← left_turn (page_of g.page) w read (list_of g) (ends_by g) (value (between m f.start f.end)) done p.at p.row (drop p.at m) (omega (arith, h.end_is, more))) h.going
 
       pub instancing_next : (a n : ℕ) (j' u' : List ℕ) → Meets 1 m p.at p.row Next (Ok (Done a n)) j j' u u' → Here (done + 1) end (record { at = a; row = n }) j' u'
       instancing_next a n j' u' M =
-          let (on, past) = going_on m i b at k _ Next p.at p.row j u j' u' Rest turned 1 a n M in
-          record { said = h.said; end_is = h.end_is; some = omega (arith, more); moved = omega (arith, h.moved, past); going = on }
+          let (on, past) = going_on m i b (f.end + 1) (k + 1) Counted Next p.at p.row j u j' u' Rest turned 1 a n M in
+          record { end_is = h.end_is; some = omega (arith, more); moved = omega (arith, h.moved, past); going = on }
 
-      pub instancing_bad : (e : Refused) (j' u' : List ℕ) → Meets 1 m p.at p.row Next (Err e) j j' u u' → Meets 1 m at k (Whole (page_of g.page) w d (outer_by g.page g.around) v m at k) (Err e) i j' b u'
-      instancing_bad e j' u' M = going_bad m i b at k _ Next p.at p.row j u j' u' Rest turned 1 1 e M j' u'
+      pub instancing_bad : (e : Refused) (j' u' : List ℕ) → Meets 1 m p.at p.row Next (Err e) j j' u u' → Meets 0 m (f.end + 1) (k + 1) Counted (Err e) i j' b u'
+      instancing_bad e j' u' M = going_bad m i b (f.end + 1) (k + 1) Counted Next p.at p.row j u j' u' Rest turned 1 0 e M j' u'
 
-      pub instancing_ask : (t : ℕ) (j' u' : List ℕ) → Meets 1 m p.at p.row Next (Ok (Ask t)) j j' u u' → Meets 1 m at k (Whole (page_of g.page) w d (outer_by g.page g.around) v m at k) (Ok (Ask t)) i j' b u'
-      instancing_ask t j' u' M = going_ask m i b at k _ Next p.at p.row j u j' u' Rest turned 1 1 t M j' u'
+      pub instancing_ask : (t : ℕ) (j' u' : List ℕ) → Meets 1 m p.at p.row Next (Ok (Ask t)) j j' u u' → Meets 0 m (f.end + 1) (k + 1) Counted (Ok (Ask t)) i j' b u'
+      instancing_ask t j' u' M = going_ask m i b (f.end + 1) (k + 1) Counted Next p.at p.row j u j' u' Rest turned 1 0 t M j' u'
 
     pub instancing_end : end ≤ done → length m ≤ 8192 → (x : Result Step Refused) → Says (drop p.at m) p.at p.row (f_closed (page_of g.page) w (list_of g) (full [] p.at (drop p.at m))) x
-        → Meets 1 m at k (Whole (page_of g.page) w d (outer_by g.page g.around) v m at k) x i j b u
+        → Meets 0 m (f.end + 1) (k + 1) Counted x i j b u
     instancing_end last short x S =
-        let all : h.said ≤ done = omega (arith, h.end_is, h.moved, h.going.inside) in
-        let z = rw (left_end (page_of g.page) w read (list_of g) (ends_by g) h.said done p.at p.row (drop p.at m) all) at h.going in
-        going_says m i b at k _ _ p.at p.row j u j u 1 z (omega (arith, h.moved)) x S
+        let all : value (between m f.start f.end) ≤ done = omega (arith, h.end_is, h.moved, h.going.inside) in
+        let z = rw (left_end (page_of g.page) w read (list_of g) (ends_by g) (value (between m f.start f.end)) done p.at p.row (drop p.at m) all) at h.going in
+        going_says m i b (f.end + 1) (k + 1) Counted _ p.at p.row j u j u 0 z (omega (arith, h.going.costs)) x S
 
 -- what an item reads within a group
 pub item_read : (g : Group) (page : Code.Page) (opened : List (Bor (List ℕ))) (w below d : ℕ) (v : Within) (a n : ℕ) (s : List ℕ) → g.page ≡ page → opened ≡ g.list ∷ take 3 g.around → Spare (drop 3 g.around) → below + 1 ≡ d
@@ -437,3 +410,53 @@ says_stuck m at k (ask t) x i b z S h = S
 pub no_first_meets : (g : Group) (m : List ℕ) (w : ℕ) (v : Within) (d at k t : ℕ) (x : Result Step Refused) (i b : List ℕ) → peek (drop at m) ≡ t → is_first (list_of g) t ≡ false → at ≤ length m
     → Says (drop at m) at k (Instance g m w v d at k i b) x → Meets 1 m at k (Instance g m w v d at k i b) x i i b b
 no_first_meets g m w v d at k t x i b p z h S = says_stuck m at k _ x i b (inst_stuck (page_of g.page) w (Read g m w v d at k i b) (list_of g) (ends_by g) at k (drop at m) (rw p z)) S h
+
+-- a field that was taken off, within a group or in the message's own list, and if it is a count what its group reader answers
+module _ (P : Page) (w d : ℕ) (out : ℕ → Bool) (v : Within) (m : List ℕ) (p : Spot) (i b j u : List ℕ) (t : Taken) (T : Took P.book m v p (Ok t) i j b u) where
+  abbrev Item : Fill
+  Item = Whole P w d out v m p.at p.row
+
+  pub taken_plain : t.count ≡ None → Meets 1 m p.at p.row Item (Ok (Done t.next.at t.next.row)) i j b u
+  taken_plain n = item_plain_at P w d out v m p.at p.row i b T.0 T.1 (sym T.2 ∙ n) t.next T.3 j u T.4 T.5
+
+  module _ (f : Field) (n : t.count ≡ Some f) where
+    pub taken_stands : Stands m p.at f.tag f.start f.end
+    taken_stands = stands_of T.0 T.1 (sym T.2 ∙ n)
+      where
+        stands_of : (g : Grabbed) → Takes P.book m p.at (grab P.book (drop p.at m)) (Ok g) → count_in g ≡ Some f → Stands m p.at f.tag f.start f.end
+        stands_of (Pair l r) T n = absurd (none_some f n)
+        stands_of (Single h y) (e, (known, st)) n = rw (some_same (eqb (number_of y) 7) h f n) at st
+
+    abbrev Instances : Fill
+    Instances = f_group P w (f_item P w d) out f.tag (value (between m f.start f.end)) v.depth (f.end + 1) p.row (drop (f.end + 1) m)
+
+    counted_as : (g : Grabbed) → Takes P.book m p.at (grab P.book (drop p.at m)) (Ok g) → count_in g ≡ Some f → Item ≡ before (grab_rows v g) Instances
+    counted_as (Pair l r) T n = absurd (none_some f n)
+    counted_as (Single h y) (e, (known, st)) n =
+        let n7 : number_of y ≡ 7 = eqb-true (number_of y) 7 (some_true (eqb (number_of y) 7) h f n) in
+        let hf : h ≡ f = some_same (eqb (number_of y) 7) h f n in
+        let c : is_count P.book h.tag ≡ true = rw (← known) (eq-eqb (number_of y) 7 n7) in
+        rw (← hf) (
+        whole_is P w d out v m p.at p.row _ e
+        ∙ node_group P w d out v m p.at p.row h (between m h.start h.end) (drop (h.end + 1) m) c
+        ∙ rw (stands_end m p.at h.tag h.start h.end st, stands_row m p.at h.tag h.start h.end st v)
+        )
+
+    end_of : (g : Grabbed) → count_in g ≡ Some f → (grab_end g ≡ f.end + 1) × (length (grab_rows v g) ≡ 1)
+    end_of (Pair l r) n = absurd (none_some f n)
+    end_of (Single h y) n = (ap (λ h. h.end + 1) (some_same (eqb (number_of y) 7) h f n), refl)
+
+    pub taken_counted : (x : Result Step Refused) (j' u' : List ℕ) → Meets 0 m (f.end + 1) (p.row + 1) Instances x j j' u u' → Meets 1 m p.at p.row Item x i j' b u'
+    taken_counted x j' u' M =
+        let st = taken_stands in
+        let q = end_of T.0 (sym T.2 ∙ n) in
+        let g : Going m i b p.at p.row Item Instances (f.end + 1) (p.row + 1) j u = record {
+          rows = grab_rows v T.0;
+          made = counted_as T.0 T.1 (sym T.2 ∙ n);
+          index = T.4;
+          bytes = T.5;
+          count = rw q.1 refl;
+          costs = rw q.1 (omega (arith, st.past, st.some));
+          inside = omega (arith, st.inside);
+        } in
+        going_meets m i b p.at p.row Item Instances (f.end + 1) (p.row + 1) j u j' u' g (omega (arith, st.past, st.some)) x M

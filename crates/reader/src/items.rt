@@ -1,8 +1,10 @@
 // The fields between 35 and 10: "an instance may hold a further group". Group reader and instance reader call each other, and at every call
 // the depth that is left and the bytes left together fall.
 ghost use Rattle.std.specs.Prelude.{◌≡◌, ◌+◌, ◌≤◌, ◌<◌, length, drop};
+ghost use Rattle.numbers.specs.Decimal.{value};
 ghost use Rattle.book.specs.Records.{records};
-ghost use Rattle.reader.specs.Filling.{put_row, put_rows, row_numbers, row_bytes, f_item, f_inst};
+ghost use Rattle.reader.specs.Filling.{put_row, put_rows, row_numbers, row_bytes, f_item, f_inst, f_group};
+ghost use Rattle.reader.specs.Taken.{between, Stands};
 ghost use Rattle.reader.specs.Met.{page_of, outer_by, inner_by, opened_of, ends_by, list_of, count_in, grab_rows, grab_end, field_row, AllShort, Ready, Took, Meets};
 
 use crate::closing::{Group, Head, Watch};
@@ -81,14 +83,14 @@ fn count_in(taken: Grabbed) -> Option<Field>
 
 // What was taken off and put down: what comes behind it, and the count's own field if it was a count.
 #[derive(Clone, Copy, Debug, PartialEq, Eq)]
-struct Taken {
-    next: Spot,
-    count: Option<Field>,
+pub(crate) struct Taken {
+    pub next: Spot,
+    pub count: Option<Field>,
 }
 
 // Takes a field off, or a Length with its data, and puts it down. It stays a call, so that what it holds is not held at each level of groups.
 #[inline(never)]
-fn take(
+pub(crate) fn take(
     scan: &Scan,
     within: Within,
     spot: Spot,
@@ -105,33 +107,32 @@ fn take(
     })
 }
 
-// The group reader, within a group or, where that has no list, in the message's own list: a field or a Length with its data; and where it is a count, its own field and then its instances.
+// The group reader: behind the count's own field, which stands at the spot and is put down, its instances.
 #[cycle(items)]
-pub(crate) fn item<'a>(
+pub(crate) fn group<'a>(
     scan: &Scan<'a>,
-    group: &Group<'a>,
+    outer: &Group<'a>,
     depth: usize,
     within: Within,
     spot: Spot,
+    field: Field,
     index: &mut [u16],
     bytes: &mut [u8],
 ) -> Result<Step, Refused>
-    requires { Ready scan.now (opened_of group.now) depth spot × (within.depth + depth ≤ 4) }
-    ensures { Meets 1 scan.now.m.now spot.at spot.row
-        (f_item (page_of scan.now.page) scan.now.watch (depth + 1) (outer_by scan.now.page (opened_of group.now)) within.depth within.count within.instance
-        spot.at spot.row (drop spot.at scan.now.m.now)) result index.old index.new bytes.old bytes.new }
+    requires { Ready scan.now (opened_of outer.now) depth spot × (within.depth + depth ≤ 4) × Stands scan.now.m.now spot.at field.tag field.start field.end }
+    ensures { Meets 0 scan.now.m.now (field.end + 1) (spot.row + 1)
+        (f_group (page_of scan.now.page) scan.now.watch (f_item (page_of scan.now.page) scan.now.watch depth) (outer_by scan.now.page (opened_of outer.now))
+        field.tag (value (between scan.now.m.now field.start field.end)) within.depth (field.end + 1) spot.row (drop (field.end + 1) scan.now.m.now))
+        result index.old index.new bytes.old bytes.new }
 {
-    let Taken { mut next, count } = take(scan, within, spot, index, bytes)?;
-    let Some(field) = count else {
-        return Ok(Step::Done {
-            at: next.at,
-            row: next.row,
-        });
-    };
     let inner = Group {
         page: scan.page,
         list: group_list(scan.page.book, field.tag),
-        around: group.opened(),
+        around: outer.opened(),
+    };
+    let mut next = Spot {
+        at: field.end + 1,
+        row: spot.row + 1,
     };
     for done in 0..count_of(scan.m, field.start, field.end) {
         let inside = Within {
@@ -177,7 +178,14 @@ fn instance<'a>(
     let mut watch = Watch::new(scan.watch);
     loop {
         watch = watch.seen(tag);
-        let step = item(scan, group, below, within, spot, index, bytes)?;
+        let taken = take(scan, within, spot, index, bytes)?;
+        let step = match taken.count {
+            None => Step::Done {
+                at: taken.next.at,
+                row: taken.next.row,
+            },
+            Some(field) => self::group(scan, group, below, within, spot, field, index, bytes)?,
+        };
         let Step::Done { at, row } = step else {
             return Ok(step);
         };

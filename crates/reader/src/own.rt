@@ -8,7 +8,7 @@ ghost use Rattle.reader.specs.Met.{page_of, Begun, Spare, opened_of, Says, Meets
 
 use crate::closing::{Group, Head, Watch, refuse};
 use crate::fields::peek;
-use crate::items::item;
+use crate::items::{group, take};
 use crate::lists::lists_tag;
 use crate::marks::Marks;
 use crate::refusal::{Refusal, Refused};
@@ -63,7 +63,15 @@ pub(crate) fn own<'a>(
         if marks.has(scan.page.own, tag) {
             return Err(Refusal::Twice.at(spot.at));
         }
-        let step = item(scan, &none, 4, Within::message(), spot, index, bytes)?;
+        let within = Within::message();
+        let taken = take(scan, within, spot, index, bytes)?;
+        let step = match taken.count {
+            None => Step::Done {
+                at: taken.next.at,
+                row: taken.next.row,
+            },
+            Some(field) => group(scan, &none, 4, within, spot, field, index, bytes)?,
+        };
         let Step::Done { at, row } = step else {
             return Ok(step);
         };
