@@ -25,19 +25,18 @@ pub fn read_arrangement(book: &[u8], msg: &[u8], index: &mut [u16]) -> Result<us
     reading::read(book, msg, index)
 }
 
-// The same of `read_checked`, for a book that was checked before.
+// The same of `read_checked`, which leaves out whether the book is sound: of a book that is, these are the promises of `read_arrangement`.
 pub fn read_arrangement_checked(
     book: &[u8],
     msg: &[u8],
     index: &mut [u16],
 ) -> Result<usize, Refused>
-    requires { check book.now ≡ sound }
     ensures accepted { IsRoomy book.now msg.now index.old → (IsOk result ↔ ((A : Arrangement) × Gives book.now msg.now A)) }
-    ensures exactly { IsOk result ↔ ((A : Arrangement) × Gives book.now msg.now A × Fits book.now msg.now index.old A) }
-    ensures stated { IfOk result (λ n. (A : Arrangement) × Gives book.now msg.now A × States A msg.now index.old index.new n) }
-    ensures one { (A C : Arrangement) → Gives book.now msg.now A → Gives book.now msg.now C → A ≡ C }
-    ensures kept { OnErr result (index.new ≡ index.old) }
-    ensures refused { IfErr result (λ r. OfTable book.now msg.now index.old (number r.why) r.at (tag_of r.why)) }
+    ensures exactly { check book.now ≡ sound → IsOk result ↔ ((A : Arrangement) × Gives book.now msg.now A × Fits book.now msg.now index.old A) }
+    ensures stated { check book.now ≡ sound → IfOk result (λ n. (A : Arrangement) × Gives book.now msg.now A × States A msg.now index.old index.new n) }
+    ensures one { check book.now ≡ sound → (A C : Arrangement) → Gives book.now msg.now A → Gives book.now msg.now C → A ≡ C }
+    ensures kept { check book.now ≡ sound → OnErr result (index.new ≡ index.old) }
+    ensures refused { check book.now ≡ sound → IfErr result (λ r. OfTable book.now msg.now index.old (number r.why) r.at (tag_of r.why)) }
 {
     reading::read_checked(book, msg, index)
 }
