@@ -3,7 +3,6 @@
 #![tactic(auto)]
 
 use index::{Found, Walker};
-use std::alloc::Global;
 use std::io;
 
 fn say_found(rt: &impl Print, found: Found) -> io::Result<()> {
@@ -270,11 +269,18 @@ fn many_rows(rt: &impl Print, index: &[u16]) -> io::Result<()> {
     walks(rt, &[("row-65536", index, 3), ("65538-rows", index, 0)])
 }
 
-// 65,538 rows: all zeros but the last two, which are instances 1 and 2 of count row 3.
-fn large(rt: &impl Print, alloc: Global) -> io::Result<()> {
-    let mut numbers = vec![in alloc; 0; 393216]?;
-    numbers.extend_from_slice(&[7, 0, 2, 0, 3, 1, 0, 0, 0, 0, 3, 2])?;
-    many_rows(rt, &numbers)
+// The last two rows are instances 1 and 2 of count row 3.
+fn filled(rt: &impl Print, numbers: &mut [u16]) -> io::Result<()> {
+    if let Some(last) = numbers.last_chunk_mut() {
+        *last = [7, 0, 2, 0, 3, 1, 0, 0, 0, 0, 3, 2];
+    }
+    many_rows(rt, numbers)
+}
+
+// 65,538 rows: all zeros but the last two.
+fn large(rt: &impl Print) -> io::Result<()> {
+    let mut numbers = [0; 393228];
+    filled(rt, &mut numbers)
 }
 
 fn main(rt: HostRuntime) -> io::Result<()> {
@@ -285,7 +291,7 @@ fn main(rt: HostRuntime) -> io::Result<()> {
     find_cases(&rt)?;
     walk_cases(&rt)?;
     step_cases(&rt)?;
-    large(&rt, rt.alloc())
+    large(&rt)
 }
 
 const P2_MESSAGE: &[u8] =

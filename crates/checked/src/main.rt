@@ -15,13 +15,14 @@
 
 mod pen;
 
+use arrayvec::ArrayVec;
 use book::Broken;
 use pen::Pen;
 use std::io;
 use std::io::Read;
 
 // The input is read up to here.
-const INPUT: u64 = 131072;
+const INPUT: usize = 131072;
 
 // The answer to what was written: of a book, or of a value of a datatype.
 fn answer(rt: &impl Print, datatype: Option<u16>, bytes: &[u8]) -> io::Result<()> {
@@ -56,15 +57,13 @@ fn is_open(label: &[u8]) -> bool {
     label.iter().rev().find(|b| matches!(b, b'(' | b')')) == Some(&b'(')
 }
 
-fn answer_words(rt: &impl Print, label: &[u8], words: &[u8]) -> io::Result<()> {
-    let mut pen = Pen::new();
+fn answer_words(rt: &impl Print, pen: &mut Pen, label: &[u8], words: &[u8]) -> io::Result<()> {
     pen.words(words, is_open(label));
     answer(rt, datatype(label), pen.bytes())
 }
 
 // The last byte is the closing quote.
-fn answer_value(rt: &impl Print, label: &[u8], value: &[u8]) -> io::Result<()> {
-    let mut pen = Pen::new();
+fn answer_value(rt: &impl Print, pen: &mut Pen, label: &[u8], value: &[u8]) -> io::Result<()> {
     pen.text(value, b'|', 1);
     match pen.bytes().split_last() {
         Some((_, bytes)) => answer(rt, datatype(label), bytes),
@@ -73,33 +72,36 @@ fn answer_value(rt: &impl Print, label: &[u8], value: &[u8]) -> io::Result<()> {
 }
 
 // Only the last line of the input may have no end, and then no answer.
-fn run_line(rt: &impl Print, line: &[u8]) -> io::Result<()> {
+fn run_line(rt: &impl Print, pen: &mut Pen, line: &[u8]) -> io::Result<()> {
     let end = line
         .iter()
         .position(|b| matches!(b, b'#' | b':' | b'"' | b'\n'));
     let (label, rest) = line.split_at(end.unwrap_or(line.len()));
     rt.write_all(label)?;
     match rest {
-        [b':', words @ .., b'\n'] => answer_words(rt, label, words),
+        [b':', words @ .., b'\n'] => answer_words(rt, pen, label, words),
         [b'"', value @ .., b'\n'] => {
             rt.write_all(b"\"")?;
             rt.write_all(value)?;
-            answer_value(rt, label, value)
+            answer_value(rt, pen, label, value)
         }
         [b'"', ..] => rt.write_all(rest),
         _ => Ok(()),
     }
 }
 
+// One pen writes all cases, since a new one is blank in all its room.
 fn run(rt: &impl Print, input: &[u8]) -> io::Result<()> {
+    let mut pen = Pen::new();
     for line in input.split_inclusive(|b| *b == b'\n') {
-        run_line(rt, line)?;
+        pen.clear();
+        run_line(rt, &mut pen, line)?;
     }
     Ok(())
 }
 
 fn main(rt: HostRuntime) -> io::Result<()> {
-    let mut input = Vec::new(rt.alloc());
-    rt.stdin().take(INPUT).read_to_end(&mut input)?;
+    let mut input = ArrayVec::<u8, INPUT>::new();
+    io::copy(&mut rt.stdin().take(INPUT as u64), &mut input)?;
     run(&rt, input.as_slice())
 }

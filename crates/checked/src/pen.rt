@@ -38,6 +38,12 @@ impl Pen {
         }
     }
 
+    // For the next case: nothing is written.
+    pub fn clear(&mut self) {
+        self.out.clear();
+        self.open = None;
+    }
+
     pub fn bytes(&self) -> &[u8] {
         self.out.as_slice()
     }
@@ -54,7 +60,10 @@ impl Pen {
 
     // In place of the number that stands there.
     fn set_number(&mut self, at: usize, n: u16) {
-        for (old, new) in self.out.iter_mut().skip(at).zip(n.to_le_bytes()) {
+        let Some(behind) = self.out.as_mut_slice().get_mut(at..) else {
+            return;
+        };
+        for (old, new) in behind.iter_mut().zip(n.to_le_bytes()) {
             *old = new;
         }
     }
@@ -74,28 +83,32 @@ impl Pen {
         }
     }
 
-    // So many bytes more, each as the one `back` before it.
+    // So many bytes more, as far as there is room, each as the one `back` before it.
     fn again(&mut self, back: usize, count: u32) {
-        for _ in 0..count {
+        for _ in 0..self.out.remaining_capacity().min(count as usize) {
             if let Some(at) = self.out.len().checked_sub(back) {
                 self.put(byte_at(self.bytes(), at));
             }
         }
     }
 
-    // The tag of the field that ends here, one higher.
-    fn raise(&mut self) {
+    // The tag of the field that ends here, so much higher.
+    fn raise(&mut self, by: u16) {
         if let Some(at) = self.out.len().checked_sub(6) {
             let tag = u16_at(self.bytes(), at);
-            self.set_number(at, tag.saturating_add(1));
+            self.set_number(at, tag.saturating_add(by));
         }
     }
 
-    // So many fields more, the tag one higher each time.
+    // So many fields more, the tag one higher each time. With no field to repeat, or no room, the tag goes up alone.
     fn run(&mut self, count: u16) {
-        for _ in 0..count {
+        for left in (1..=count).rev() {
+            if self.out.len() < 10 || self.out.is_full() {
+                self.raise(left);
+                return;
+            }
             self.again(10, 10);
-            self.raise();
+            self.raise(1);
         }
     }
 
