@@ -40,7 +40,7 @@ pub fn type_text<'a>(w: &'a [u8]) -> &'a [u8]
 fn is_message(r: Record, text: &[u8]) -> bool
     ensures { result ≡ is_message text.now (record_in r.entry) }
 {
-    r.is(Kind::Message) && type_text(r.text()) == text
+    type_text(r.text()) == text && r.is(Kind::Message)
 }
 
 // The first message of that type text. No record that takes ten bytes is a message, so the tag to stop at is any.

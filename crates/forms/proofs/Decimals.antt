@@ -32,7 +32,7 @@ module _ (h : Form) (z : after 45 h ≡ none) where
   unfolding accepts
   refuse b s e = ap (λ n. accepts (after n h) s) (eqb-true b 45 e) ∙ ap (λ g. accepts g s) z ∙ none_law s
 
-  minus_is : (s : List ℕ) → accepts (maybe (byte 45) ▷ h) s ≡ accepts h (unsigned s)
+  pub minus_is : (s : List ℕ) → accepts (maybe (byte 45) ▷ h) s ≡ accepts h (unsigned s)
   unfolding unsigned maybe byte accepts null after seq
   minus_is [] = refl
   minus_is (b ∷ s) = maybe_then (byte 45) h (b ∷ s) ∙ rw (only_one 45 b) (go (eqb b 45) refl)

@@ -134,7 +134,7 @@ sum_least (b ∷ s) m n p q h k e =
         let y : n ≤ suc (length s) = k (b ∷ s) (and_right (p []) (q (b ∷ s)) o) in
         omega arith
 
-at_least : (f : Form) (s : List ℕ) → accepts f s ≡ true → least f ≤ length s
+pub at_least : (f : Form) (s : List ℕ) → accepts f s ≡ true → least f ≤ length s
 unfolding least accepts null
 at_least none s a = zero-le
 at_least nil s a = zero-le

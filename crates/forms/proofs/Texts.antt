@@ -1,13 +1,15 @@
 -- Types 1, 2, 3, 10 and 16: the form is a walk over bytes. Assumes nothing.
 use mathlib.Core.Path.{◌≡◌, refl, sym, ◌∙◌}
-use Prim.Native.Nat.{ℕ, zero, suc, ◌<◌}
+use Prim.Native.Nat.{ℕ, zero, suc, ◌+◌, ◌<◌, ◌≤◌}
+use native.Mathlib.Numerals.{add-one}
 use native.Mathlib.Omega.{arith}
-use mathlib.Core.Bool.{Bool, true, false, ◌&&◌, ◌||◌, not, cond, and-true, and-false, or-false, and_assoc}
+use mathlib.Core.Bool.{Bool, true, false, ◌&&◌, ◌||◌, not, and-true}
 use mathlib.Core.List.{List, [], ◌∷◌}
 use lib.Dec.{leb, ltb, eqb, leb-zero}
-use lib.ListN.{length, get_or}
+use lib.ListN.{length, drop, get_or, drop_of_length-le}
+use lib.Seq.{drop-cons}
 use borrow.Author.Tests.{leb-true, leb-false, le-leb, lt-leb, eqb-true, eqb-false, ne_eqb, lt-ltb}
-use Rattle.std.specs.List.{list_any, list_all, slice_split, onto_first}
+use Rattle.std.specs.List.{list_any}
 use Rattle.numbers.specs.Bytes.{some, free}
 use Rattle.numbers.proofs.Tests.{only_one}
 use Rattle.forms.specs.Form.{Form, none, nil, one, ◌▷◌, many, seq, alt_r, alt, null, after, accepts}
@@ -145,44 +147,23 @@ from_is (b ∷ s) false h =
     go false p true q ih jh = jh
     go false p false q ih jh = ih
 
--- words are strings parted by single spaces
-abbrev is_space : ℕ → Bool
-is_space b = eqb b 32
-
--- the parts of s, as they stand before a gap and in a word
-abbrev Parts : List ℕ → List (List ℕ) → Type 0
-Parts s [] = ⊥
-Parts s (h ∷ t) =
-    Bytes h
-    × (words_from true s ≡ (some h && free 1 h && list_all (accepts string) t))
-    × (words_from false s ≡ (free 1 h && list_all (accepts string) t))
-
-parts : (s : List ℕ) → Bytes s → Parts s (slice_split is_space s)
-unfolding words_from free
-parts [] k = (k, refl, refl)
-parts (b ∷ s) k = go (eqb b 32) refl (slice_split is_space s) (parts s (λ i. k (suc i)))
-  where
-    go : (t : Bool) → eqb b 32 ≡ t → (p : List (List ℕ)) → Parts s p → Parts (b ∷ s) (cond t ([] ∷ p) (onto_first b p))
-    go t e [] m = absurd m
-    go true e (h ∷ p) m =
-        let n : eqb b 1 ≡ false = ne_eqb b 1 (λ q. omega (arith, eqb-true b 32 e)) in
-        (λ i. omega arith, rw (n, e), rw (n, e) (m.1 ∙ rw (string_is h m.0)))
-    go false e (h ∷ p) m = (front, same true, same false)
-      where
-        front : Bytes (b ∷ h)
-        front zero = k 0
-        front (suc i) = m.0 i
-
-        same : (gap : Bool) → (not (eqb b 1 || (gap && eqb b 32)) && words_from (eqb b 32) s) ≡ (not (eqb b 1) && free 1 h && list_all (accepts string) p)
-        same gap = rw (e, and-false gap, or-false (eqb b 1), m.2) (sym (and_assoc (not (eqb b 1)) (free 1 h) (list_all (accepts string) p)))
-
-pub words_is : (s : List ℕ) → Bytes s → accepts words s ≡ list_all (accepts string) (slice_split is_space s)
+pub words_is : (s : List ℕ) → Bytes s → accepts words s ≡ words_from true s
 unfolding word_at
-words_is s k = from_is s true k ∙ go (slice_split is_space s) (parts s k)
-  where
-    go : (p : List (List ℕ)) → Parts s p → words_from true s ≡ list_all (accepts string) p
-    go [] m = absurd m
-    go (h ∷ p) m = m.1 ∙ rw (string_is h m.0)
+words_is s h = from_is s true h
+
+-- the loop over the bytes of words
+module _ (s : List ℕ) (gap : Bool) (i : ℕ) (inv : accepts words s ≡ words_from gap (drop i s)) where
+  pub words_stop : i < length s → (eqb (get_or s i 0) 1 || (gap && eqb (get_or s i 0) 32)) ≡ true → false ≡ accepts words s
+  unfolding words_from
+  words_stop h e = rw (inv, drop-cons s i 0, e)
+
+  pub words_next : i < length s → (eqb (get_or s i 0) 1 || (gap && eqb (get_or s i 0) 32)) ≡ false → accepts words s ≡ words_from (eqb (get_or s i 0) 32) (drop (i + 1) s)
+  unfolding words_from
+  words_next h e = inv ∙ rw (add-one, drop-cons s i 0, e)
+
+  pub words_end : length s ≤ i → not gap ≡ accepts words s
+  unfolding words_from
+  words_end h = rw (inv, drop_of_length-le s)
 
 -- one byte
 longer : (s : List ℕ) → eqb (suc (suc (length s))) 1 ≡ false

@@ -36,8 +36,17 @@ pub fn is_data(s: &[u8]) -> bool
 }
 
 // 16 MultipleStringValue: non-empty words parted by single spaces
+// kept: a flag, since a word that is found first and asked for byte 1 then is looked at to its end, where this stops at that byte.
 pub fn is_words(s: &[u8]) -> bool
     ensures { result ≡ accepts words s.now }
 {
-    s.split(|b| *b == b' ').all(is_string)
+    let mut gap = true;
+    for b in s {
+        let is_space = *b == b' ';
+        if (*b == 1) | (gap & is_space) {
+            return false;
+        }
+        gap = is_space;
+    }
+    !gap
 }

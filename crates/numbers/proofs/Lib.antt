@@ -6,3 +6,4 @@ pub mod Shortest
 pub mod Decimals
 pub mod Same
 pub mod Finding
+pub mod Scanning

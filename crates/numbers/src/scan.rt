@@ -16,12 +16,16 @@ pub struct Number {
 pub fn number_at(s: &[u8], from: usize) -> Number
     ensures { (result.value ≡ min (value (leading_digits (drop from s.now))) 65536) × (result.end ≡ from + length (leading_digits (drop from s.now))) }
 {
-    let rest = rest(s, from);
-    let n = rest.iter().take_while(|b| b.is_ascii_digit()).count();
-    Number {
-        value: value_capped_at(&rest[..n], 65_536),
-        end: from + n,
+    let mut value = 0;
+    let mut end = from;
+    for b in rest(s, from) {
+        if !b.is_ascii_digit() {
+            return Number { value, end };
+        }
+        value = (value * 10 + usize::from(b - b'0')).min(65_536);
+        end += 1;
     }
+    Number { value, end }
 }
 
 // The value of digits, or the cap where it is larger.

@@ -1,17 +1,25 @@
-use Rattle.std.proofs.Common.{rules, tests, ◌≡◌, ◌∙◌, drop, length, take}
-use Rattle.std.specs.List.{prefix_len}
-use Rattle.std.proofs.lemmas.Iterator.{YieldsList-from_slice}
-use Rattle.std.proofs.lemmas.Iterator.Consumers.{count_from_yields_List}
-use Rattle.std.proofs.lemmas.Iterator.Search.{YieldsList-from_take_while}
-use Rattle.std.proofs.lemmas.List.Folds.{length-prefix_len}
-use Rattle.numbers.specs.Decimal.{digit}
-use Rattle.numbers.proofs.Finding.{leading_is}
+use Rattle.std.proofs.Common.{rules, ◌∙◌, sym, ◌+◌, ◌<◌, length}
+use Rattle.numbers.proofs.Scanning.{number_start, number_stop, number_turn, number_end, number_of, place_in}
 use Rattle.numbers.proofs.scan.number_at.Goals as goal
 
+pub loop-b-init : goal.loop-b-init
+loop-b-init c = (c.rest-b-items.ensures, search rules, number_start _ _)
+
+pub returns-then-not-is_ascii_digit : goal.returns-then-not-is_ascii_digit
+returns-then-not-is_ascii_digit c =
+    let i = c.loop-b.invariant in
+    number_of _ _ _ i.0 _ _ _ _ i.1 (number_stop _ _ _ _ i.2 c.loop-b-test.true (sym c.is_ascii_digit.ensures.value ∙ c.if-not-is_ascii_digit.true))
+
+pub overflow_add-end : goal.overflow_add-end
+overflow_add-end c =
+    let i = c.loop-b.invariant in
+    let h : c.args.from + c.loop-b.b-index < length c.args.s.now = place_in _ _ _ i.0 _ c.loop-b-test.true in
+    search rules
+
+pub loop-b-preserved : goal.loop-b-preserved
+loop-b-preserved c =
+    let i = c.loop-b.invariant in
+    (i.0, search rules, number_turn _ _ _ _ i.2 c.loop-b-test.true (sym c.is_ascii_digit.ensures.value ∙ c.if-not-is_ascii_digit.false) _ (search rules))
+
 pub returns : goal.returns
-returns c =
-    let s = drop c.args.from c.args.s.now in
-    let e : c.count-n.result ≡ length (take (prefix_len digit s) s) =
-    count_from_yields_List c.take_while.result _ c.count-n.ensures.ran (YieldsList-from_take_while _ (λ b. digit b) (YieldsList-from_slice s cc) c.take_while.ensures.closure c.take_while.ensures.done (λ x b q k. search (rules, tests))) in
-    let n : c.count-n.result ≡ prefix_len digit s = e ∙ length-prefix_len (λ b. digit b) s in
-    (rw (leading_is s, c.value_capped_at.ensures, n, c.rest-rest.ensures), rw (leading_is s, e))
+returns c = let i = c.loop-b.invariant in number_of _ _ _ i.0 _ _ _ _ i.1 (number_end _ _ _ _ i.2 (search rules))
