@@ -1,7 +1,7 @@
 // The bytes that the words or the value of a case write. What does not fit is left out.
 use arrayvec::ArrayVec;
 use book::records::Kind;
-use numbers::{byte_at, u16_at};
+use numbers::u16_at;
 
 // More than the 16,384 bytes of the longest book.
 const ROOM: usize = 16400;
@@ -83,12 +83,14 @@ impl Pen {
         }
     }
 
-    // So many bytes more, as far as there is room, each as the one `back` before it.
-    fn again(&mut self, back: usize, count: u32) {
-        for _ in 0..self.out.remaining_capacity().min(count as usize) {
-            if let Some(at) = self.out.len().checked_sub(back) {
-                self.put(byte_at(self.bytes(), at));
+    // The last bytes so many times more, as far as there is room.
+    fn again(&mut self, last: &[u8], times: u16) {
+        for _ in 0..times {
+            let room = self.out.remaining_capacity().min(last.len());
+            if room == 0 {
+                return;
             }
+            let _ = self.out.try_extend_from_slice(&last[..room]);
         }
     }
 
@@ -103,11 +105,14 @@ impl Pen {
     // So many fields more, the tag one higher each time. With no field to repeat, or no room, the tag goes up alone.
     fn run(&mut self, count: u16) {
         for left in (1..=count).rev() {
-            if self.out.len() < 10 || self.out.is_full() {
-                self.raise(left);
-                return;
-            }
-            self.again(10, 10);
+            let last = match self.bytes().last_chunk::<10>() {
+                Some(last) if !self.out.is_full() => *last,
+                _ => {
+                    self.raise(left);
+                    return;
+                }
+            };
+            self.again(&last, 1);
             self.raise(1);
         }
     }
@@ -141,7 +146,11 @@ impl Pen {
         match rest {
             [b'0'..=b'9', ..] => self.put_number(number(rest)),
             [b'x', digits @ ..] => self.hex(digits),
-            [b'*', digits @ ..] => self.again(4, u32::from(number(digits)) * 4),
+            [b'*', digits @ ..] => {
+                if let Some(last) = self.bytes().last_chunk::<4>().copied() {
+                    self.again(&last, number(digits));
+                }
+            }
             [b'+', digits @ ..] => {
                 self.open = None;
                 self.run(number(digits));
