@@ -1,5 +1,6 @@
 // What the book declares: total on any bytes, the first declaration wins.
-ghost use Rattle.std.specs.Prelude.{◌≡◌, ℕ, eqb};
+ghost use Rattle.std.specs.Prelude.{◌≡◌, ℕ, true, eqb};
+ghost use Rattle.numbers.specs.Bytes.{le16, same};
 ghost use Rattle.forms.specs.Numbered.{number_of};
 ghost use Rattle.book.specs.Records.{members_of, type_text, is_count, is_kind, is_field, is_group, is_message, is_found, members_in, look_up, type_of, partner, group_of, message_of, place_in, records};
 ghost use Rattle.book.specs.Walked.{kind_number, record_in};
@@ -10,6 +11,7 @@ use crate::list::Members;
 use crate::records::{Kind, Record};
 use crate::scan::Records;
 use forms::Datatype;
+use numbers::u16_at;
 
 // The first record of that kind and tag.
 // kept: inlined, since the check's stack has no room for its answer at every level of groups.
@@ -36,11 +38,20 @@ pub fn type_text<'a>(w: &'a [u8]) -> &'a [u8]
     &w[..w.iter().position(|b| *b == 0).unwrap_or(w.len())]
 }
 
-#[tactic(auto, using(numbers::proofs::Same::same_is_eq))]
-fn is_message(r: Record, text: &[u8]) -> bool
-    ensures { result ≡ is_message text.now (record_in r.entry) }
+// Whether the record's type text may be that one, by its first two bytes, which are head, and the two behind them.
+// kept: is_message says it without this; but two bytes decide nearly every step of a scan, with nothing cut and head read once.
+fn may_be(r: Record, head: u16, text: &[u8]) -> bool
+    ensures { head ≡ le16 text.now → same (type_text (record_in r.entry).text) text.now ≡ true → result ≡ true }
 {
-    type_text(r.text()) == text && r.is(Kind::Message)
+    (r.tag() == head || text.is_empty())
+        && (text.len() < 3 || u16_at(r.bytes, 6) == u16_at(text, 2))
+}
+
+#[tactic(auto, using(numbers::proofs::Same::same_is_eq))]
+fn is_message(r: Record, head: u16, text: &[u8]) -> bool
+    ensures { head ≡ le16 text.now → result ≡ is_message text.now (record_in r.entry) }
+{
+    may_be(r, head, text) && r.is(Kind::Message) && type_text(r.text()) == text
 }
 
 // The first message of that type text. No record that takes ten bytes is a message, so the tag to stop at is any.
@@ -48,7 +59,8 @@ pub fn find_message<'a>(book: &'a [u8], text: &[u8]) -> Option<Record<'a>>
     ensures found { look_of result ≡ look_up (is_message text.now) (records book.now) }
     ensures place { found_in book.now result ≡ look_up (is_message text.now) (records book.now) }
 {
-    Records::past_others(book, Kind::Message, 0).find(|r| is_message(*r, text))
+    let head = u16_at(text, 0);
+    Records::past_others(book, Kind::Message, 0).find(|r| is_message(*r, head, text))
 }
 
 #[tactic(auto, unfolding(crate::specs::Records::type_of, crate::specs::Records::partner))]

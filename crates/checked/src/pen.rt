@@ -84,13 +84,13 @@ impl Pen {
     }
 
     // The last bytes so many times more, as far as there is room.
-    fn again(&mut self, last: &[u8], times: u16) {
+    fn again<const N: usize>(&mut self, last: [u8; N], times: u16) {
         for _ in 0..times {
-            let room = self.out.remaining_capacity().min(last.len());
-            if room == 0 {
+            if self.out.try_extend_from_slice(&last).is_err() {
+                let room = self.out.remaining_capacity().min(N);
+                let _ = self.out.try_extend_from_slice(&last[..room]);
                 return;
             }
-            let _ = self.out.try_extend_from_slice(&last[..room]);
         }
     }
 
@@ -112,7 +112,7 @@ impl Pen {
                     return;
                 }
             };
-            self.again(&last, 1);
+            self.again(last, 1);
             self.raise(1);
         }
     }
@@ -148,7 +148,7 @@ impl Pen {
             [b'x', digits @ ..] => self.hex(digits),
             [b'*', digits @ ..] => {
                 if let Some(last) = self.bytes().last_chunk::<4>().copied() {
-                    self.again(&last, number(digits));
+                    self.again(last, number(digits));
                 }
             }
             [b'+', digits @ ..] => {

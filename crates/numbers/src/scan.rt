@@ -22,7 +22,9 @@ pub fn number_at(s: &[u8], from: usize) -> Number
         if !b.is_ascii_digit() {
             return Number { value, end };
         }
-        value = (value * 10 + usize::from(b - b'0')).min(65_536);
+        if value < 65_536 {
+            value = (value * 10 + usize::from(b - b'0')).min(65_536);
+        }
         end += 1;
     }
     Number { value, end }

@@ -12,5 +12,5 @@ use Rattle.book.proofs.lookup.find_message.Goals as goal
 pub returns : goal.returns
 returns c =
     let p = is_message c.args.text.now in let left = c.past_others.result in let B = records_left left in
-    let e : look_of c.find.result ≡ look_up p (records c.args.book.now) = found_is p B c.find.result (find_from_yields_List p c.find.new.self _ c.find.result c.find.ensures.ran (YieldsList-from_first record_in records_left {s = left} B refl) (λ x b q k. search (rules, tests))) ∙ c.past_others.ensures.messages c.args.text.now in
+    let e : look_of c.find.result ≡ look_up p (records c.args.book.now) = found_is p B c.find.result (find_from_yields_List p c.find.new.self _ c.find.result c.find.ensures.ran (YieldsList-from_first record_in records_left {s = left} B refl) (λ x b q k. search (rules, tests, c.u16_at-head.ensures))) ∙ c.past_others.ensures.messages c.args.text.now in
     record { found = e; place = found_there p c.args.book.now c.find.result e }
