@@ -30,6 +30,17 @@ fn number(digits: &[u8]) -> u16 {
     digits.iter().fold(0, |n, b| further(n, *b))
 }
 
+// A field's bytes with the tag one higher.
+fn raised(mut field: [u8; 10]) -> [u8; 10] {
+    let [_, _, _, _, low, high, ..] = field;
+    let [low, high] = u16::from_le_bytes([low, high])
+        .saturating_add(1)
+        .to_le_bytes();
+    field[4] = low;
+    field[5] = high;
+    field
+}
+
 impl Pen {
     pub fn new() -> Pen {
         Pen {
@@ -83,11 +94,11 @@ impl Pen {
         }
     }
 
-    // The last bytes so many times more, as far as there is room.
-    fn again<const N: usize>(&mut self, last: [u8; N], times: u16) {
+    // The last four bytes so many times more, as far as there is room.
+    fn again(&mut self, last: [u8; 4], times: u16) {
         for _ in 0..times {
             if self.out.try_extend_from_slice(&last).is_err() {
-                let room = self.out.remaining_capacity().min(N);
+                let room = self.out.remaining_capacity().min(4);
                 let _ = self.out.try_extend_from_slice(&last[..room]);
                 return;
             }
@@ -104,16 +115,19 @@ impl Pen {
 
     // So many fields more, the tag one higher each time. With no field to repeat, or no room, the tag goes up alone.
     fn run(&mut self, count: u16) {
+        let Some(mut field) = self.bytes().last_chunk::<10>().copied() else {
+            self.raise(count);
+            return;
+        };
         for left in (1..=count).rev() {
-            let last = match self.bytes().last_chunk::<10>() {
-                Some(last) if !self.out.is_full() => *last,
-                _ => {
-                    self.raise(left);
-                    return;
-                }
-            };
-            self.again(last, 1);
-            self.raise(1);
+            let next = raised(field);
+            if self.out.try_extend_from_slice(&next).is_err() {
+                let room = self.out.remaining_capacity().min(10);
+                let _ = self.out.try_extend_from_slice(&field[..room]);
+                self.raise(left);
+                return;
+            }
+            field = next;
         }
     }
 
